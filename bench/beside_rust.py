@@ -48,7 +48,7 @@ def run(words):
     return time.perf_counter_ns() - start, ran.stdout
 
 
-def least(commands):
+def minimum(commands):
     """Runs the commands alternately. Returns the minimum time of each."""
     times = [[] for _ in commands]
     for _ in range(ROUNDS):
@@ -106,7 +106,7 @@ def main():
             lines = list(schedules.KINDS[kind](size))
             schedule = write(work, "schedule", lines)
             actions = sum(not line.startswith("agent") for line in lines)
-            ours, theirs = least([[program, "replay", schedule], [plain, schedule]])
+            ours, theirs = minimum([[program, "replay", schedule], [plain, schedule]])
             print(f"{name}: {ours / actions:.0f} ns an action, plain Rust {theirs / actions:.0f}: {ours / theirs:.2f} times", flush=True)
         for per_time, count in MERGES.items():
             ours, theirs = compare_merges(program, work, per_time, count)

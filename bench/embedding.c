@@ -133,7 +133,7 @@ static double sample(struct serf_agent *agent, bool (*call)(struct serf_agent *,
     return spent;
 }
 
-static double least(double one, double other) {
+static double smaller(double one, double other) {
     return one < other ? one : other;
 }
 
@@ -145,14 +145,14 @@ static void bench_calls(void) {
     open_agent(&one, "a");
     open_agent(&bursting, "d");
     for (int i = 0; i < SAMPLES; i++) {
-        fired = least(fired, sample(&firing, fire));
-        fresh = least(fresh, sample(&one, receive_fresh));
-        bursts = least(bursts, sample(&bursting, receive_burst));
+        fired = smaller(fired, sample(&firing, fire));
+        fresh = smaller(fresh, sample(&one, receive_fresh));
+        bursts = smaller(bursts, sample(&bursting, receive_burst));
         unsigned long before = taken;
-        repeated = least(repeated, sample(&one, receive_repeated));
+        repeated = smaller(repeated, sample(&one, receive_repeated));
         for_repeats += taken - before;
-        seen = least(seen, sample(&one, is_seen));
-        clocks = least(clocks, sample(&one, read_clocks));
+        seen = smaller(seen, sample(&one, is_seen));
+        clocks = smaller(clocks, sample(&one, read_clocks));
     }
     printf("handle: receive a repeated event's packet, 1 event a time: %.1f ns\n", repeated / SLOTS);
     printf("handle: read the result: %.1f ns\n", seen / SLOTS);
@@ -179,7 +179,7 @@ static void bench_flush(const char *folder) {
         for (size_t k = 0; k < FLUSHED; k++) {
             must(serf_agent_store_append(&store, (const uint8_t *)"event-clock: 1234\n", 18) == SERF_AGENT_STORE_OK, path);
         }
-        spent = least(spent, now() - began);
+        spent = smaller(spent, now() - began);
     }
     printf("handle: a line flushed in %s, and nothing else: %.0f ns\n", folder, spent / FLUSHED);
     serf_agent_store_close(&store);
@@ -202,7 +202,7 @@ static void bench_bursts(const char *folder) {
             must(serf_agent_store_settle(&store, &one) == SERF_AGENT_STORE_OK, path);
             read_burst(&one);
         }
-        spent = least(spent, now() - began);
+        spent = smaller(spent, now() - began);
         serf_agent_close(&one);
         serf_agent_store_close(&store);
         unlink(path);
@@ -252,7 +252,7 @@ static void bench_opening(void) {
         struct serf_agent one = {0};
         double began = now();
         must(serf_agent_open(&one, (const uint8_t *)"e", 1, &keeping, (const uint8_t *)text, len) == SERF_AGENT_OK, "open");
-        spent = least(spent, now() - began);
+        spent = smaller(spent, now() - began);
         serf_agent_close(&one);
     }
     printf("handle: open a file of %d kept events of 512 bytes: %.0f ns\n", SLOTS, spent);

@@ -21,7 +21,7 @@ LINE = re.compile(r"^(.*): ([\d.]+) ns$", re.M)
 
 def main():
     bench, rounds, folders = sys.argv[1], int((sys.argv[2:] or ["5"])[0]), sys.argv[3:]
-    least = {}
+    minimum = {}
     with tempfile.TemporaryDirectory() as folder:
         host = os.path.join(folder, "embedding")
         cc = os.environ.get("CC", "cc")
@@ -32,13 +32,13 @@ def main():
                 if status:
                     break
                 for name, time in LINE.findall(said):
-                    least[name] = min(float(time), least.get(name, float("inf")))
+                    minimum[name] = min(float(time), minimum.get(name, float("inf")))
     if status:
         sys.exit(f"handle.py: {said[-500:]}")
     print(re.search(r"^handle: memory taken .*$", said, re.M)[0])
-    for name, time in least.items():
+    for name, time in minimum.items():
         if name.startswith("handle: "):
-            own = least.get(name[len("handle: ") :])
+            own = minimum.get(name[len("handle: ") :])
             print(f"{name}: {time:.1f} ns" + (f", and {own:.1f} ns from Rattle: {time / own:.2f} times" if own else ""))
 
 

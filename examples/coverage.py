@@ -40,8 +40,8 @@ def marks_of(schedule, every):
             span = int(words[3]) // every
             marks.append((actions, str(span * every)))
         actions += 1
-        says = words[0] == "deliver" and len(words) == 4 and words[3].isdigit()
-        moments.append(int(words[3]) if says else moments[-1])
+        has_moment = words[0] == "deliver" and len(words) == 4 and words[3].isdigit()
+        moments.append(int(words[3]) if has_moment else moments[-1])
     return agents, [*marks, (actions, "end")], moments
 
 
@@ -61,51 +61,54 @@ class Run:
         self.handed = {}
         self.ignored = dict.fromkeys(REASONS, 0)
 
-    def take(self, words):
+    def add_line(self, words):
+        """Counts a line of the trace."""
         if words[1] == "event":
             self.handed.setdefault(tuple(words[3:6]), {}).setdefault(words[2], int(words[0]))
         elif words[1] == "ignored":
             self.ignored[words[2]] += 1
 
     def row(self, mark, actions):
-        everywhere = sum(len(had) == self.agents for had in self.handed.values())
+        """The row of a mark, after so many actions."""
+        everywhere = sum(len(hand_outs) == self.agents for hand_outs in self.handed.values())
         return [mark, actions, sum(map(len, self.handed.values())), len(self.handed), everywhere, *self.ignored.values()]
 
     def events(self, moments):
-        for event, had in self.handed.items():
-            when = sorted(moments[action] for action in had.values())
-            share = [when[0], *(when[-(-len(when) * tenths // 10) - 1] for tenths in (5, 9)), when[-1]]
-            yield [*event, len(had), *share]
+        """The row of each event: when the first agent, half of the agents and so on had it."""
+        for event, hand_outs in self.handed.items():
+            times = sorted(moments[action] for action in hand_outs.values())
+            shares = [times[0], *(times[-(-len(times) * tenths // 10) - 1] for tenths in (5, 9)), times[-1]]
+            yield [*event, len(hand_outs), *shares]
 
 
 def main():
     parser = argparse.ArgumentParser(description=__doc__, formatter_class=argparse.RawDescriptionHelpFormatter)
-    shown = parser.add_mutually_exclusive_group()
-    shown.add_argument("--every", type=int, metavar="NANOSECONDS")
-    shown.add_argument("--events", action="store_true")
+    output_kind = parser.add_mutually_exclusive_group()
+    output_kind.add_argument("--every", type=int, metavar="NANOSECONDS")
+    output_kind.add_argument("--events", action="store_true")
     parser.add_argument("schedule", nargs="?", default="-")
     parser.add_argument("program", nargs="?", default="serf-replay")
-    asked = parser.parse_args()
-    schedule = read(asked.schedule)
-    agents, marks, moments = marks_of(schedule, asked.every)
-    if asked.events:
+    options = parser.parse_args()
+    schedule = read(options.schedule)
+    agents, marks, moments = marks_of(schedule, options.every)
+    if options.events:
         marks = []
-    out, run = csv.writer(sys.stdout, lineterminator="\n"), Run(agents)
-    out.writerow(OF_EVENTS if asked.events else ["mark", "actions", "handed_out", "events", "everywhere", *REASONS])
-    with tempfile.TemporaryFile() as given:
+    writer, run = csv.writer(sys.stdout, lineterminator="\n"), Run(agents)
+    writer.writerow(OF_EVENTS if options.events else ["mark", "actions", "handed_out", "events", "everywhere", *REASONS])
+    with tempfile.TemporaryFile() as input_file:
         # The program reads a file, not a pipe, so that the two processes can't wait for each other.
-        given.write(schedule)
-        given.seek(0)
-        with subprocess.Popen([asked.program, "replay", "--stream"], stdin=given, stdout=subprocess.PIPE, text=True) as replay:
+        input_file.write(schedule)
+        input_file.seek(0)
+        with subprocess.Popen([options.program, "replay", "--stream"], stdin=input_file, stdout=subprocess.PIPE, text=True) as replay:
             for line in replay.stdout:
                 words = line.split()
                 while marks and marks[0][0] < int(words[0]):
-                    out.writerow(run.row(marks[0][1], marks[0][0]))
+                    writer.writerow(run.row(marks[0][1], marks[0][0]))
                     del marks[0]
-                run.take(words)
+                run.add_line(words)
     if replay.returncode == 0:
-        out.writerows(run.row(text, actions) for actions, text in marks)
-        out.writerows(run.events(moments) if asked.events else [])
+        writer.writerows(run.row(text, actions) for actions, text in marks)
+        writer.writerows(run.events(moments) if options.events else [])
     return replay.returncode
 
 

@@ -6,38 +6,41 @@ agent that doesn't exist. The lines before its `refused NoAgent` belong to the a
 the program's own actions have the odd numbers.
 """
 
+import argparse
 import subprocess
 import sys
 
-ASK = b"deliver 18446744073709551615 0 0\n"
+# An action that is always refused, because no agent has this number.
+REFUSED_ACTION = b"deliver 18446744073709551615 0 0\n"
 
 
 class Stream:
     def __init__(self, program, agents):
-        self.run = subprocess.Popen([program, "replay", "--stream"], stdin=subprocess.PIPE, stdout=subprocess.PIPE)
-        self.run.stdin.write(agents)
+        self.process = subprocess.Popen([program, "replay", "--stream"], stdin=subprocess.PIPE, stdout=subprocess.PIPE)
+        self.process.stdin.write(agents)
         self.actions = 0
 
-    def turn(self, line):
+    def send_action(self, line):
         """Sends the line of an action, and returns the trace's lines for it."""
-        self.run.stdin.write(line + b"\n" + ASK)
-        self.run.stdin.flush()
+        self.process.stdin.write(line + b"\n" + REFUSED_ACTION)
+        self.process.stdin.flush()
         self.actions += 2
-        came = []
-        while (said := self.run.stdout.readline()) != b"%d refused NoAgent\n" % self.actions:
-            if not said:
+        trace_lines = []
+        while (trace_line := self.process.stdout.readline()) != b"%d refused NoAgent\n" % self.actions:
+            if not trace_line:
                 raise EOFError("the stream ended because a line was bad; see standard error")
-            came.append(said)
-        return came
+            trace_lines.append(trace_line)
+        return trace_lines
 
 
 def main():
-    program = sys.argv[1] if len(sys.argv) > 1 else "serf-replay"
-    stream = Stream(program, b"agent 61 4 4 512 8 keep\nagent 62 4 4 512 8 keep\n")
+    words = argparse.ArgumentParser(description=__doc__, formatter_class=argparse.RawDescriptionHelpFormatter)
+    words.add_argument("program", nargs="?", default="serf-replay", metavar="PROGRAM", help="the program to drive (default: serf-replay)")
+    stream = Stream(words.parse_args().program, b"agent 61 4 4 512 8 keep\nagent 62 4 4 512 8 keep\n")
     for line in (b"fire 0 6465706c6f79 7631 0", b"deliver 1 0 0", b"deliver 1 0 0"):
-        sys.stdout.buffer.writelines(stream.turn(line))
-    stream.run.stdin.close()
-    return stream.run.wait()
+        sys.stdout.buffer.writelines(stream.send_action(line))
+    stream.process.stdin.close()
+    return stream.process.wait()
 
 
 if __name__ == "__main__":

@@ -82,10 +82,10 @@ def gate_script():
     return module
 
 
-def ran(words, given=b""):
+def run_program(words, given=b""):
     """The program on these words and this input: its status, its standard output, and its standard error."""
-    done = subprocess.run([PROGRAM, *words], input=given, capture_output=True, timeout=LIMIT)
-    return done.returncode, done.stdout, done.stderr
+    result = subprocess.run([PROGRAM, *words], input=given, capture_output=True, timeout=LIMIT)
+    return result.returncode, result.stdout, result.stderr
 
 
 def processor_seconds():
@@ -113,7 +113,7 @@ class Checks:
 
     def exactly(self, name, words, status, out, err, given=b""):
         """Checks the status and all output of the program for these words and this input. Returns what it wrote on standard output."""
-        result = ran(words, given)
+        result = run_program(words, given)
         expected = (status, out[:300], err[:300])
         self.check(name, result == (status, out, err), f"expected {expected}, got {(result[0], result[1][:300], result[2][:300])}")
         return result[1]

@@ -13,7 +13,7 @@ sys.path.insert(0, os.path.join(checks.TOP, "conformance", "python"))
 from serf_agent import messages
 
 AGENT = "agent 61 4 4 512 8 keep"
-GREATEST = (1 << 64) - 1
+MAX_UINT64 = (1 << 64) - 1
 
 # Calls that more than one script makes.
 FIRE, BREAK = "fire 78 - 0", "break append 1"
@@ -58,7 +58,7 @@ def answers(calls, agent=AGENT):
         else:
             word, _, rest = call.partition(" ")
             lines.append(f"{word} 0 {rest}".strip())
-    status, out, said = checks.ran(["replay"], "\n".join(lines).encode())
+    status, out, said = checks.run_program(["replay"], "\n".join(lines).encode())
     found = {}
     for line in out.decode().splitlines():
         number, shown = line.split(" ", 1)

@@ -18,7 +18,7 @@ BLOCK = re.compile(r"(?:^(?: {4}|\t).*\n(?:\n(?= {4}|\t))?)+", re.M)
 
 # How a command begins: with its variables, and then with one of these words.
 COMMAND = re.compile(
-    r"(?:[A-Z_]+=\S* )*(?:\./[\w.-]+|agent/[\w/]+|bindings/[\w/]+|tools/[\w.]+|examples/[\w.]+|serf|serf-replay|kitchenrue-agent|cut|grep|mkfifo|seq|for|sh|python3?|pip|go|cargo|dpkg"
+    r"(?:[A-Z_]+=\S* )*(?:\./[\w.-]+|agent/[\w/]+|bindings/[\w/]+|tools/[\w.]+|examples/[\w./]+|serf|serf-replay|kitchenrue-agent|cut|grep|mkfifo|seq|for|sh|python3?|pip|go|cargo|dpkg"
     r"|make|cmake|cc|rt|apt-get|tar|sha256sum)(?=[ ;]|$)"
 )
 
@@ -32,18 +32,20 @@ EXITS = "tests/repository/exits.py"
 FIRST_CALL = "tests/repository/first_call.py"
 RELEASE = "tests/repository/release.py"
 TIMELINE = "tests/program/timeline.py"
+ATTEST = "tests/program/attest.py"
 
 # Which script runs a command: the pages, how the command begins, and the script. The first row that matches is used.
 RUN_BY = (
     ("docs/WRONG_BODIES.md", "tools/wrong_bodies", EXITS),
     ("CONTRIBUTING.md", "SERF_UNPROVED=1 ", FIRST_CALL),
     ("*", "kitchenrue-agent |agent/|dpkg |serf ", AGENT),
-    ("docs/AGENT.md", "examples/schedule_of_records.py |serf-replay ", AGENT),
+    ("docs/AGENT.md", "examples/records/|serf-replay ", AGENT),
+    ("examples/records/README.md", "examples/records/", ATTEST),
     ("*", "mkfifo |./my-agent ", EMBED),
     ("*", "python3 conformance/|seq |sh ", CONFORM),
     ("bindings/*", "", PACKAGES),
     ("examples/capture/README.md", "python3 ", CAPTURE),
-    ("*", "python3 examples/timeline/", TIMELINE),
+    ("*", "(?:./)?serf-replay timeline ", TIMELINE),
     ("examples/timeline/README.md", "serf-replay ", TIMELINE),
     ("*", "(?:./)?serf-replay |for |cut |grep ", COMMAND_LINE),
 )

@@ -37,11 +37,12 @@ BODY = re.compile(r"\s*(?:ensures\b|requires\b|where\b|ghost\b|\{|;|measure\b)")
 
 
 def read(*parts):
+    """The text of a file below the top folder."""
     with open(os.path.join(TOP, *parts), encoding="utf-8") as file:
         return file.read()
 
 
-def exported(lib):
+def exported_names(lib):
     """The names that a crate exports."""
     words = " ".join(re.findall(r"^pub use (?!serf_)[\w:]*?(?:::)?(\{[^}]*\}|\w+);", lib, re.M))
     return set(re.findall(r"\w+", words))
@@ -66,15 +67,15 @@ def signature(lines):
 
 def contract(lines):
     """The lines of the function that begins here, up to its body."""
-    indent, found, is_begun = re.match(r" *", "".join(lines[:1]))[0], [], False
+    indent, contract_lines, is_begun = re.match(r" *", "".join(lines[:1]))[0], [], False
     for line in lines:
         is_begun = is_begun or bool(re.match(r" *(?:ensures|requires|ghost)\b", line))
         if line.rstrip() in (indent + "{", indent + "}") or (not is_begun and line.rstrip().endswith(("{", ";"))):
             break
-        found.append(line)
+        contract_lines.append(line)
         if line.endswith(";"):
             break
-    return found
+    return contract_lines
 
 
 def clauses(lines):
@@ -90,8 +91,8 @@ def has_conditions(lines):
 def sentence(docs):
     """The first sentence of an item's docs."""
     text = " ".join(line.strip().removeprefix("///").strip() for line in docs).split("  ")[0]
-    found = re.match(r"(.*?[.:])(?: [A-Z`(]|$)", text)
-    return (found[1].rstrip(":") if found else text).replace("|", "\\|")
+    match = re.match(r"(.*?[.:])(?: [A-Z`(]|$)", text)
+    return (match[1].rstrip(":") if match else text).replace("|", "\\|")
 
 
 def items_in(path):
@@ -121,33 +122,33 @@ def items_in(path):
             docs = []
 
 
-def shown_items(crate):
+def exported_items(crate):
     """The public items of a crate, each with the lines that it begins."""
     paths = sorted(glob.glob(os.path.join(TOP, "crates", crate, "src", "**", "*.rt"), recursive=True))
-    shown, found = exported(read("crates", crate, "src", "lib.rt")), []
-    shown |= {name for path in paths for name in EXPORT.findall(read(os.path.relpath(path, TOP)))}
+    names, items = exported_names(read("crates", crate, "src", "lib.rt")), []
+    names |= {name for path in paths for name in EXPORT.findall(read(os.path.relpath(path, TOP)))}
     for path in paths:
-        found += [one for one in items_in(os.path.relpath(path, TOP)) if (one[0] or one[1]) in shown]
-    return found
+        items += [item for item in items_in(os.path.relpath(path, TOP)) if (item[0] or item[1]) in names]
+    return items
 
 
 def conditions(crate):
     """The public calls of a crate that require something of their caller."""
-    return {f"{owner}::{name}" if owner else name for owner, name, _, _, lines in shown_items(crate) if lines and has_conditions(lines)}
+    return {f"{owner}::{name}" if owner else name for owner, name, _, _, lines in exported_items(crate) if lines and has_conditions(lines)}
 
 
 def calls(crate):
     """The rows of a crate's calls: types with their methods, then functions."""
-    order = sorted(shown_items(crate), key=lambda one: ((one[0] or one[1])[0].islower(), (one[0] or one[1]).lower(), one[0] is not None))
-    return [f"| `{what}` | {says} | {', '.join(f'`{name}`' if name != 'one' else name for name in clauses(lines))} |" for _, _, what, says, lines in order]
+    order = sorted(exported_items(crate), key=lambda item: ((item[0] or item[1])[0].islower(), (item[0] or item[1]).lower(), item[0] is not None))
+    return [f"| `{signature_text}` | {purpose} | {', '.join(f'`{name}`' if name != 'one' else name for name in clauses(lines))} |" for _, _, signature_text, purpose, lines in order]
 
 
 def function(text, name):
     """A function of a file, unchanged, with its docs."""
-    found = re.search(rf"^(?:///.*\n|#\[.*\n)*(?:pub )?fn {name}\b(?s:.*?)^\}}$", text, re.M)
-    if not found:
+    match = re.search(rf"^(?:///.*\n|#\[.*\n)*(?:pub )?fn {name}\b(?s:.*?)^\}}$", text, re.M)
+    if not match:
         sys.exit(f"calling: there is no function {name}")
-    return found[0]
+    return match[0]
 
 
 def caller(crate):
@@ -156,17 +157,18 @@ def caller(crate):
         return ""
     path, names = CALLERS[crate]
     text = "\n\n".join(function(read(path), name) for name in names)
-    shown = re.sub(r"^(?=.)", "    ", text, flags=re.M)
+    indented = re.sub(r"^(?=.)", "    ", text, flags=re.M)
     return f"""## A caller
 
 From `{path}`:
 
-{shown}
+{indented}
 
 """
 
 
 def page(crate):
+    """The page of a crate."""
     text = read("crates", crate, "src", "lib.rt")
     head = re.match(r"(?://!.*\n)+", text)
     purpose = re.sub(r"^//! ?", "", head[0], flags=re.M).strip() if head else ""
@@ -194,22 +196,22 @@ def words(crate):
     return "\n".join(["", "## Its definitions", "", *rows, ""])
 
 
-def made():
+def check_pages():
     """Each page, and whether it equals what the sources yield."""
     for crate in CALLERS:
         path = os.path.join("crates", crate, "CALLING.md")
         yield path, os.path.exists(os.path.join(TOP, path)) and read(path) == page(crate)
 
 
-def main(given):
-    if len(given) == 1 and os.path.isfile(os.path.join(TOP, "crates", given[0], "src", "lib.rt")):
-        print(page(given[0]) + words(given[0]), end="")
+def main(words_given):
+    if len(words_given) == 1 and os.path.isfile(os.path.join(TOP, "crates", words_given[0], "src", "lib.rt")):
+        print(page(words_given[0]) + words(words_given[0]), end="")
         return 0
-    if given not in ([], ["--check"]):
+    if words_given not in ([], ["--check"]):
         print(__doc__.strip(), file=sys.stderr)
         return 2
-    if given:
-        faults = [path for path, is_made in made() if not is_made]
+    if words_given:
+        faults = [path for path, is_made in check_pages() if not is_made]
         for path in faults:
             print(f"{path} is outdated: run tools/calling.py")
         return int(bool(faults))

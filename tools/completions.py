@@ -50,10 +50,10 @@ class Command:
 
 
 def help_of(words):
-    ran = subprocess.run([PROGRAM, *words, "--help"], stdin=subprocess.DEVNULL, capture_output=True, text=True)
-    if ran.returncode:
-        sys.exit(f"completions: serf-replay {' '.join([*words, '--help'])} failed: {ran.stderr[-300:]}")
-    return ran.stdout
+    result = subprocess.run([PROGRAM, *words, "--help"], stdin=subprocess.DEVNULL, capture_output=True, text=True)
+    if result.returncode:
+        sys.exit(f"completions: serf-replay {' '.join([*words, '--help'])} failed: {result.stderr[-300:]}")
+    return result.stdout
 
 
 def options_in(text):

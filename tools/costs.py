@@ -20,11 +20,12 @@ def stat_of(pid):
 
 
 def words_of(pid):
+    """The words of a process's command line."""
     with open(f"/proc/{pid}/cmdline", "rb") as file:
         return file.read().decode("utf-8", "replace").split("\0")
 
 
-def check_in(words):
+def check_of_process(words):
     """The crate that a process checks, and whether it checks a proof or an edit. None for any other process."""
     # An unproved run also checks a crate's names with --start, which proves nothing.
     if os.path.basename(words[0]) != "rattle" or "--crate-name" not in words or "fmt" in words[:2] or "--start" in words:
@@ -40,36 +41,40 @@ class Costs:
     def __init__(self):
         self.seconds = {}
         self.ending = threading.Event()
-        self.looks = None
+        self.sampler = None
 
     def watch(self, root):
-        self.looks = threading.Thread(target=self.look_on, args=(root,), daemon=True)
-        self.looks.start()
+        """Begins to sample the processes below this one."""
+        self.sampler = threading.Thread(target=self.sample_until_end, args=(root,), daemon=True)
+        self.sampler.start()
 
-    def look_on(self, root):
+    def sample_until_end(self, root):
+        """Samples the processes until `end` is called."""
         while not self.ending.wait(PERIOD_SECONDS):
-            self.look(root)
+            self.sample(root)
 
-    def look(self, root):
-        parents, used = {}, {}
+    def sample(self, root):
+        """Adds what the checks below a process have used so far."""
+        parents, used_seconds = {}, {}
         for name in os.listdir("/proc"):
             if name.isdigit():
                 try:
-                    parents[int(name)], used[int(name)] = stat_of(name)
+                    parents[int(name)], used_seconds[int(name)] = stat_of(name)
                 except (OSError, ValueError, IndexError):
                     continue
         for pid in parents:
             if self.is_below(pid, root, parents):
                 try:
-                    found = check_in(words_of(pid))
+                    check = check_of_process(words_of(pid))
                     # If a check forks, the copy counts with it.
-                    if found and check_in(words_of(parents[pid])) != found:
-                        self.seconds[pid, found] = used[pid]
+                    if check and check_of_process(words_of(parents[pid])) != check:
+                        self.seconds[pid, check] = used_seconds[pid]
                 except (OSError, KeyError):
                     continue
 
     @staticmethod
     def is_below(pid, root, parents):
+        """Whether a process is below another one, or is that one."""
         while pid in parents and pid != root:
             pid = parents[pid]
         return pid == root
@@ -77,8 +82,8 @@ class Costs:
     def end(self):
         """Returns the seconds of all processes, for each crate and kind."""
         self.ending.set()
-        self.looks.join()
+        self.sampler.join()
         sums = {}
-        for (_, found), seconds in self.seconds.items():
-            sums[found] = sums.get(found, 0) + seconds
+        for (_, check), seconds in self.seconds.items():
+            sums[check] = sums.get(check, 0) + seconds
         return sums

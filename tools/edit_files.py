@@ -51,27 +51,30 @@ class Reader:
         self.file = self.old = None
         self.edits = []
 
-    def fault(self, what):
+    def bad_edit(self, what):
+        """Returns the error of the edit that is read."""
         return BadEdit(f"{self.edits[-1].name if self.edits else self.name}: {what}")
 
-    def take(self, line):
+    def read_line(self, line):
+        """Reads a line: of an edit, or one that begins an edit or names a file."""
         if not line:
             return
-        found = LINE.match(line)
-        if not found:
-            raise self.fault(f"this isn't a line of an edit: {line[:80]}")
-        key, text = found[1], found[2] or ""
+        match = LINE.match(line)
+        if not match:
+            raise self.bad_edit(f"this isn't a line of an edit: {line[:80]}")
+        key, text = match[1], match[2] or ""
         if key == "file":
             self.file = text.strip()
         elif key == "edit":
-            self.end()
+            self.end_edit()
             self.edits.append(Written(text.strip()))
         elif not self.edits:
-            raise self.fault(f"a '{key}:' line is before any 'edit:' line")
+            raise self.bad_edit(f"a '{key}:' line is before any 'edit:' line")
         else:
-            self.take_of_edit(self.edits[-1], key, text)
+            self.read_field(self.edits[-1], key, text)
 
-    def take_of_edit(self, edit, key, text):
+    def read_field(self, edit, key, text):
+        """Reads a line of an edit."""
         if key == "why":
             edit.why = text.strip()
         elif key == "turns":
@@ -85,32 +88,33 @@ class Reader:
             self.old = text
         elif key == "new":
             if self.file is None or self.old is None:
-                raise self.fault("a 'new:' line is before any 'file:' or 'old:' line")
+                raise self.bad_edit("a 'new:' line is before any 'file:' or 'old:' line")
             edit.pairs.append((self.file, self.old, text))
             edit.twins.append(None)
             self.old = None
         elif not edit.pairs or self.old is not None:
-            raise self.fault("a 'twin:' line is before any 'new:' line")
+            raise self.bad_edit("a 'twin:' line is before any 'new:' line")
         else:
             edit.twins[-1] = text
 
     def end_pair(self):
+        """Checks that each line 'old:' has its line 'new:'."""
         if self.old is not None:
-            raise self.fault("an 'old:' line has no 'new:' line")
+            raise self.bad_edit("an 'old:' line has no 'new:' line")
 
-    def end(self):
+    def end_edit(self):
         """Ends the block of an edit."""
         self.end_pair()
         if self.edits and not self.edits[-1].why:
-            raise self.fault("it has no line 'why:' with what it does")
+            raise self.bad_edit("it has no line 'why:' with what it does")
 
 
 def read(name, text):
     """The edits of a file's text, as they are written."""
     reader = Reader(name)
     for line in text.split("\n"):
-        reader.take(line)
-    reader.end()
+        reader.read_line(line)
+    reader.end_edit()
     return reader.edits
 
 

@@ -35,8 +35,9 @@ TOOLCHAIN = re.compile(r"toolchain \S+ logic ([0-9a-f]+)$")
 LINE = re.compile(r"(\w+) ([0-9a-f]{32}) (false|shape|twin|law|open) (.+)$")
 
 
-def said_by(*words):
-    return subprocess.run(words, cwd=edits.TOP, check=True, stdout=subprocess.PIPE, stderr=subprocess.DEVNULL, text=True).stdout.strip()
+def output_of(*command):
+    """What a command prints."""
+    return subprocess.run(command, cwd=edits.TOP, check=True, stdout=subprocess.PIPE, stderr=subprocess.DEVNULL, text=True).stdout.strip()
 
 
 def judge():
@@ -48,8 +49,9 @@ def judge():
     return reach.sha(*texts)[:32]
 
 
-def head():
-    return f"toolchain {said_by('rt', 'version')}\njudge {judge()}"
+def header():
+    """The first lines of a file: the toolchain, and the hash of the scripts that judge."""
+    return f"toolchain {output_of('rt', 'version')}\njudge {judge()}"
 
 
 def logic_of(first):
@@ -81,9 +83,9 @@ class Evidence:
             self.faults.append(f"tests/refused/{crate}.txt {why}: all its edits are tried again")
             return
         for line in lines:
-            found = LINE.match(line)
-            if found:
-                self.lines[found[1]] = (found[2], Refusal(found[3], found[4]))
+            match = LINE.match(line)
+            if match:
+                self.lines[match[1]] = (match[2], Refusal(match[3], match[4]))
             elif line:
                 self.faults.append(f"tests/refused/{crate}.txt: this line isn't the line of an edit: {line[:80]}")
 
@@ -92,7 +94,7 @@ class Evidence:
         total, refusal = self.lines.get(edit.name, (None, None))
         return refusal if total == sum_now else None
 
-    def gone(self, names):
+    def lines_without_edit(self, names):
         """The edits of the file that the crate doesn't have any more."""
         return [f"tests/refused/{self.crate}.txt: there is no edit {name}" for name in self.lines if name not in names]
 
@@ -108,7 +110,7 @@ class Evidence:
 def commit():
     """The hash of the current commit, or None if this is not a repository."""
     try:
-        return said_by("git", "rev-parse", "HEAD")
+        return output_of("git", "rev-parse", "HEAD")
     except (OSError, subprocess.CalledProcessError):
         return None
 

@@ -41,7 +41,7 @@ class Part:
         self.name = name
         self.on_line = on_line
         self.passed = self.failed = 0
-        self.said = ""
+        self.output = ""
         self.crates = {}
         self.seconds = self.processor = 0.0
 
@@ -50,31 +50,32 @@ class Part:
         began = time.monotonic()
         watch = costs.Costs()
         lines = []
-        how = {"cwd": TOP, "stdin": subprocess.DEVNULL, "stdout": subprocess.PIPE, "stderr": subprocess.STDOUT, "text": True, "errors": "replace"}
-        with subprocess.Popen(words, env=env, **how) as ran:
-            watch.watch(ran.pid)
-            for line in ran.stdout:
+        settings = {"cwd": TOP, "stdin": subprocess.DEVNULL, "stdout": subprocess.PIPE, "stderr": subprocess.STDOUT, "text": True, "errors": "replace"}
+        with subprocess.Popen(words, env=env, **settings) as process:
+            watch.watch(process.pid)
+            for line in process.stdout:
                 lines.append(line)
                 if self.on_line:
                     self.on_line(line)
             # What the command and all its children used.
-            _, status, used = os.wait4(ran.pid, 0)
-            ran.returncode = os.waitstatus_to_exitcode(status)
+            _, status, usage = os.wait4(process.pid, 0)
+            process.returncode = os.waitstatus_to_exitcode(status)
         self.crates = watch.end()
-        self.said = "".join(lines)
-        counts = COUNT.findall(self.said)
+        self.output = "".join(lines)
+        counts = COUNT.findall(self.output)
         self.passed, self.failed = map(int, counts[-1]) if counts else (0, 1)
-        if ran.returncode and not self.failed:
+        if process.returncode and not self.failed:
             self.failed = 1
-        self.seconds, self.processor = time.monotonic() - began, used.ru_utime + used.ru_stime
+        self.seconds, self.processor = time.monotonic() - began, usage.ru_utime + usage.ru_stime
         with PRINTING:
             if not self.on_line:
-                print(self.said, end="")
+                print(self.output, end="")
             print(f"-- {self.name}: {self.seconds:.0f} seconds, {self.processor:.0f} processor seconds", flush=True)
         return self
 
     def seconds_of(self, kind):
-        return sum(used for (_, of), used in self.crates.items() if of == kind)
+        """The processor seconds of all checks of a kind."""
+        return sum(used for (_, kind_of_check), used in self.crates.items() if kind_of_check == kind)
 
 
 class Progress:
@@ -88,6 +89,7 @@ class Progress:
         self.buffer = []
 
     def on_line(self, line):
+        """Prints a line of `rt ci`, and how far the proofs are."""
         if not line.startswith("rt:"):
             self.buffer.append(line)
             return
@@ -121,21 +123,21 @@ def crate_costs():
 def chain_costs(crates):
     """What each of these crates costs together with the most expensive chain of crates that waits for it, by the rows. Without
     rows, all crates cost the same."""
-    found = {}
+    chain_cost = {}
     try:
         costs = crate_costs()
     except OSError:
         costs = {}
     # The crates above a crate are before it in this order, so their costs are known.
     for crate in sorted(crates, key=lambda it: -len(it.below())):
-        above = [found[it.folder] for it in crates if it.folder in found and any(below.folder == crate.folder for below in it.below())]
-        found[crate.folder] = costs.get(crate.name, UNKNOWN) + max(above, default=0)
-    return found
+        costs_above = [chain_cost[it.folder] for it in crates if it.folder in chain_cost and any(below.folder == crate.folder for below in it.below())]
+        chain_cost[crate.folder] = costs.get(crate.name, UNKNOWN) + max(costs_above, default=0)
+    return chain_cost
 
 
-def wanted():
+def minimum_counts():
     """The minimum number that has to run, by its name."""
-    return {name: least for name, (least, _) in rows().items() if least is not None}
+    return {name: minimum for name, (minimum, _) in rows().items() if minimum is not None}
 
 
 def all_seconds():
@@ -143,14 +145,14 @@ def all_seconds():
     return sum(seconds for name, (_, seconds) in rows().items() if name in PARTS)
 
 
-def kept_nothing(said):
+def kept_nothing(output):
     """Whether `rt ci` proved each crate in this run, by its output."""
-    found = [how for _, how in PROVED.findall(said)]
-    return bool(found) and all(how == "proved" for how in found)
+    verbs = [verb for _, verb in PROVED.findall(output)]
+    return bool(verbs) and all(verb == "proved" for verb in verbs)
 
 
-def too_long(said, seconds, processors):
+def too_long(output, seconds, processors):
     """Why the whole took too long by the clock, or None. The limit is for a run without kept proofs on two processors or more."""
-    if processors < 2 or seconds <= LONGEST or not kept_nothing(said):
+    if processors < 2 or seconds <= LONGEST or not kept_nothing(output):
         return None
     return f"the gate, for which no proof was kept, took {seconds / 60:.0f} minutes by the clock; the limit is {LONGEST // 60}"

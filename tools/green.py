@@ -12,12 +12,14 @@ PROGRAM = os.path.join("crates", "serf_replay_program", "out", "serf_replay_prog
 LIBRARY = os.path.join("crates", "serf_agent_c", "out", "libserf_agent_c.a")
 
 
-def mark(top):
+def mark_path(top):
+    """The path of the mark."""
     return os.path.join(top, "crates", "serf_replay_program", "out", "green")
 
 
-def git(top, *words):
-    return subprocess.run(["git", *words], cwd=top, check=True, stdout=subprocess.PIPE, stderr=subprocess.DEVNULL, text=True).stdout.strip()
+def git(top, *arguments):
+    """What a command of git prints."""
+    return subprocess.run(["git", *arguments], cwd=top, check=True, stdout=subprocess.PIPE, stderr=subprocess.DEVNULL, text=True).stdout.strip()
 
 
 def state(top):
@@ -42,17 +44,17 @@ def text_of(top, of_state):
     return f"{of_state} {hash_of(os.path.join(top, PROGRAM))} {hash_of(os.path.join(top, LIBRARY))}\n"
 
 
-def keep(top, before):
+def record_green(top, before):
     """Records that this state passed, if it is still the state from before the gate began."""
     if before is not None and state(top) == before:
-        with open(mark(top), "w", encoding="utf-8") as file:
+        with open(mark_path(top), "w", encoding="utf-8") as file:
             file.write(text_of(top, before))
 
 
-def holds(top):
+def is_green(top):
     """Whether the gate was green on the current state, with the current program and library."""
     try:
-        with open(mark(top), encoding="utf-8") as file:
+        with open(mark_path(top), encoding="utf-8") as file:
             return file.read() == text_of(top, state(top) or "-")
     except OSError:
         return False

@@ -13,14 +13,16 @@ TOP = os.path.dirname(os.path.dirname(os.path.abspath(__file__)))
 
 
 def folder_of(crate):
+    """The folder of a crate's library."""
     return os.path.join(crate.folder, "out", "rlib")
 
 
-def note_of(crate):
+def hashes_path(crate):
+    """The path of the file with the two hashes of a library."""
     return os.path.join(folder_of(crate), "of_ci")
 
 
-def bytes_of(crate):
+def hash_of_library(crate):
     """A hash of a library's own bytes."""
     total, top = hashlib.sha256(), os.path.join(folder_of(crate), f"{crate.name}.rlib")
     for folder, folders, names in os.walk(top):
@@ -32,29 +34,30 @@ def bytes_of(crate):
     return total.hexdigest()
 
 
-def state_of(crate):
-    return f"{crate.stamp()} {bytes_of(crate)}\n"
+def hashes_of(crate):
+    """The text of that file for the library as it is now."""
+    return f"{crate.stamp()} {hash_of_library(crate)}\n"
 
 
-def drop(crates):
+def remove_libraries(crates):
     """Removes what earlier runs left of these crates' libraries."""
     for crate in crates:
         shutil.rmtree(folder_of(crate), ignore_errors=True)
 
 
-def note(crates):
+def record_hashes(crates):
     """Records what `rt ci` has just left of these crates' libraries."""
     for crate in crates:
         if os.path.isdir(folder_of(crate)):
-            with open(note_of(crate), "w", encoding="utf-8") as file:
-                file.write(state_of(crate))
+            with open(hashes_path(crate), "w", encoding="utf-8") as file:
+                file.write(hashes_of(crate))
 
 
 def is_of_ci(crate):
     """Whether a crate's library is the one that `rt ci` made from the current sources."""
     try:
-        with open(note_of(crate), encoding="utf-8") as file:
-            return file.read() == state_of(crate)
+        with open(hashes_path(crate), encoding="utf-8") as file:
+            return file.read() == hashes_of(crate)
     except OSError:
         return False
 

@@ -22,34 +22,36 @@ STAR = re.compile(r"^ \*(?: |$)", re.M)
 PART = re.compile(r"(?P<comments>(?:/\*(?:(?!\*/).)*\*/\n)*)(?:(?P<gives>uint32_t|enum \w+|void|const char \*) ?(?P<call>serf_\w+)\((?P<words>[^)]*)\);|(?P<kind>enum|struct) (?P<name>\w+) \{\n(?P<body>.*?)\n\};)|(?P<head>/\* [A-Z][^*]* \*/)(?=\n\n)", re.S)
 
 
-def escaped(text):
+def escape_groff(text):
     """A text escaped for groff, so that its backslashes, dashes and leading dots are printed."""
     text = re.sub(r"\s+", " ", text.strip()).replace("\\", "\\e").replace("-", "\\-")
     return re.sub(r"^([.'])", r"\\&\1", text)
 
 
-def said(comments):
+def comment_text(comments):
     """The text of comments."""
-    return escaped(" ".join(text.strip() for text in COMMENT.findall(comments)))
+    return escape_groff(" ".join(text.strip() for text in COMMENT.findall(comments)))
 
 
 def paragraphs(text):
     """The paragraphs of the header's first comment, and the items of its lists."""
     for part in re.split(r"\n\s*\n", text.strip()):
         lines = re.split(r"\n\s*(?=\d\. |- )", part.strip())
-        yield f".PP\n{escaped(lines[0])}" if not re.match(r"\d\. |- ", lines[0]) else item(lines[0])
-        yield from map(item, lines[1:])
+        yield f".PP\n{escape_groff(lines[0])}" if not re.match(r"\d\. |- ", lines[0]) else list_item(lines[0])
+        yield from map(list_item, lines[1:])
 
 
-def item(line):
+def list_item(line):
+    """An item of a list in a comment."""
     mark, _, text = line.strip().partition(" ")
-    return f".IP {escaped(mark)} 3\n{escaped(text)}"
+    return f".IP {escape_groff(mark)} 3\n{escape_groff(text)}"
 
 
-def call(found):
-    words = re.sub(r"\s+", " ", found["words"])
-    gives = "" if found["gives"] == "uint32_t" else f"{found['gives']} "
-    return f".TP\n.BI \"{gives}{found['call']}(\" \"{escaped(words)}\" )\n{said(found['comments'])}"
+def call_entry(match):
+    """A call with its comment."""
+    parameters = re.sub(r"\s+", " ", match["words"])
+    result_type = "" if match["gives"] == "uint32_t" else f"{match['gives']} "
+    return f".TP\n.BI \"{result_type}{match['call']}(\" \"{escape_groff(parameters)}\" )\n{comment_text(match['comments'])}"
 
 
 def values(body):
@@ -57,11 +59,11 @@ def values(body):
     above = ""
     for line in body.split("\n"):
         comment = re.fullmatch(r" {4}/\* (.*) \*/", line)
-        found = re.fullmatch(r" {4}(\S.*?)( = \d+)?[,;]?\s*(?:/\* (.*?) \*/)?", line)
+        declaration = re.fullmatch(r" {4}(\S.*?)( = \d+)?[,;]?\s*(?:/\* (.*?) \*/)?", line)
         if comment:
             above = comment[1]
-        elif found and found[1] not in ("struct {", "} place"):
-            yield f".TP\n.B {escaped(found[1] + (found[2] or ''))}\n{escaped(found[3] or above or '(as its name says)')}"
+        elif declaration and declaration[1] not in ("struct {", "} place"):
+            yield f".TP\n.B {escape_groff(declaration[1] + (declaration[2] or ''))}\n{escape_groff(declaration[3] or above or '(as its name says)')}"
             above = ""
 
 
@@ -72,23 +74,24 @@ def parts_of(path):
     first = COMMENT.search(text)
     title, _, rest = first[1].partition("\n\n")
     calls, types = [], []
-    for found in PART.finditer(text, first.end()):
-        if found["call"]:
-            calls.append(call(found))
-        elif found["head"]:
-            calls.append(f".SS {said(found['head'])}")
+    for match in PART.finditer(text, first.end()):
+        if match["call"]:
+            calls.append(call_entry(match))
+        elif match["head"]:
+            calls.append(f".SS {comment_text(match['head'])}")
         else:
-            types += [f".SS {found['kind']} {found['name']}", said(found["comments"]), *values(found["body"])]
+            types += [f".SS {match['kind']} {match['name']}", comment_text(match["comments"]), *values(match["body"])]
     return title, rest, calls, types
 
 
-def page():
+def manual_page():
+    """The text of the manual page."""
     title, rest, calls, types = parts_of(HEADER)
     file_title, file_rest, file_calls, file_types = parts_of(STORE)
     text_title, text_rest, text_calls, _ = parts_of(TEXT)
     lines = ['.\\" Made from include/serf_agent.h by tools/manual_of_header.py.', '.TH SERF_AGENT 3 "" "Kitchenrue"', ".SH NAME", "serf_agent \\- one proved Serf agent in C", ".SH SYNOPSIS", ".nf"]
-    lines += [".B #include <serf_agent.h>", ".B #include <serf_agent_store.h>", ".B #include <serf_agent_text.h>", ".PP", ".B cc host.c $(pkg\\-config \\-\\-cflags \\-\\-libs serf_agent)", ".fi", ".SH DESCRIPTION", escaped(title), *paragraphs(rest)]
-    lines += [".SH CALLS", "Each call returns a value of", ".IR \"enum serf_agent_code\" .", *calls, ".SH THE FILE", escaped(file_title), *paragraphs(file_rest), *file_calls, ".SH SENTENCES", escaped(text_title), *paragraphs(text_rest), *text_calls, ".SH TYPES", *types, *file_types, ".SH SEE ALSO", ".BR serf\\-replay (1),", "docs/HOST.md: what to call when, and the file."]
+    lines += [".B #include <serf_agent.h>", ".B #include <serf_agent_store.h>", ".B #include <serf_agent_text.h>", ".PP", ".B cc host.c $(pkg\\-config \\-\\-cflags \\-\\-libs serf_agent)", ".fi", ".SH DESCRIPTION", escape_groff(title), *paragraphs(rest)]
+    lines += [".SH CALLS", "Each call returns a value of", ".IR \"enum serf_agent_code\" .", *calls, ".SH THE FILE", escape_groff(file_title), *paragraphs(file_rest), *file_calls, ".SH SENTENCES", escape_groff(text_title), *paragraphs(text_rest), *text_calls, ".SH TYPES", *types, *file_types, ".SH SEE ALSO", ".BR serf\\-replay (1),", "docs/HOST.md: what to call when, and the file."]
     return "\n".join(lines) + "\n"
 
 
@@ -96,7 +99,7 @@ def main(words):
     if words not in ([], ["--check"]):
         print(__doc__.strip(), file=sys.stderr)
         return 2
-    text = page()
+    text = manual_page()
     if words:
         with open(PAGE, encoding="utf-8") as file:
             return int(file.read() != text)

@@ -52,6 +52,7 @@ class Counts:
         self.kinds = {}
 
     def add(self, refusal, was_tried):
+        """Counts an edit, which was tried or whose line is believed."""
         with self.lock:
             self.tried += was_tried
             self.believed += not was_tried
@@ -69,6 +70,7 @@ class Counts:
             self.drawn += number
 
     def fail(self):
+        """Counts a failure that belongs to no edit."""
         with self.lock:
             self.failed += 1
 
@@ -79,54 +81,55 @@ class Run:
     def __init__(self, rt, words):
         self.rt = rt
         self.is_control, self.is_anew, self.writes = "--control" in words, "--anew" in words, "--write" in words
-        self.now = evidence.head()
+        self.now = evidence.header()
         # An archive has no commit, so a random number draws the share.
         self.commit = evidence.commit() or secrets.token_hex(20)
         self.reach = reach.Reach(TOP)
         self.counts = Counts()
 
-    def sums(self, crate, own):
-        return {edit.name: self.reach.sum_of(crate, edit)[:32] for edit in own}
+    def sums_of(self, crate, crate_edits):
+        """The hash of everything that the check of each edit reads, by name."""
+        return {edit.name: self.reach.sum_of(crate, edit)[:32] for edit in crate_edits}
 
-    def planned(self, crate, own, known, sums):
+    def plan(self, crate, crate_edits, known_evidence, sums):
         """The edits that are tried, and what refused each of the others."""
         believed = (
-            {} if self.is_anew or self.is_control else {edit.name: known.refusal(edit, sums[edit.name]) for edit in own}
+            {} if self.is_anew or self.is_control else {edit.name: known_evidence.refusal(edit, sums[edit.name]) for edit in crate_edits}
         )
         believed = {name: refusal for name, refusal in believed.items() if refusal}
         rest = {
             name: refusal for name, refusal in believed.items() if not evidence.is_drawn(f"{crate}/{name}", self.commit)
         }
-        return [edit for edit in own if edit.name not in rest], rest, believed.keys() - rest.keys()
+        return [edit for edit in crate_edits if edit.name not in rest], rest, believed.keys() - rest.keys()
 
     def try_crate(self, crate):
         """Tries the edits of a crate, prints the results, and writes them if --write is given."""
-        own = edits.edits_of(crate.name)
-        known, sums = evidence.Evidence(crate.name, self.now), self.sums(crate.name, own)
-        for line in [*known.faults, *known.gone({edit.name for edit in own})]:
-            say(line)
-        todo, rest, drawn = self.planned(crate.name, own, known, sums)
+        crate_edits = edits.edits_of(crate.name)
+        known_evidence, sums = evidence.Evidence(crate.name, self.now), self.sums_of(crate.name, crate_edits)
+        for line in [*known_evidence.faults, *known_evidence.lines_without_edit({edit.name for edit in crate_edits})]:
+            print_line(line)
+        planned_edits, rest, drawn = self.plan(crate.name, crate_edits, known_evidence, sums)
         self.counts.draw(len(drawn))
-        found = self.tried(crate, todo)
-        if any(found[name] is None for name in drawn):
-            say(f"{crate.name}: a drawn edit is not refused any more, so all edits of the crate are tried")
-            found |= self.tried(crate, [edit for edit in own if edit.name in rest])
+        refusals = self.try_edits(crate, planned_edits)
+        if any(refusals[name] is None for name in drawn):
+            print_line(f"{crate.name}: a drawn edit is not refused any more, so all edits of the crate are tried")
+            refusals |= self.try_edits(crate, [edit for edit in crate_edits if edit.name in rest])
             rest = {}
         for refusal in rest.values():
             self.counts.add(refusal, False)
-        for name, refusal in sorted((rest | found).items()):
+        for name, refusal in sorted((rest | refusals).items()):
             if refusal and refusal.kind == "open":
-                say(f"FAILED {crate.name}/{name}: {refusal}: perhaps only the change of shape was refused")
-        if self.writes and not self.is_control and sums == evidence_sums(crate.name, own):
-            known.write(self.now, sums, {name: refusal for name, refusal in (rest | found).items() if refusal})
+                print_line(f"FAILED {crate.name}/{name}: {refusal}: perhaps only the change of shape was refused")
+        if self.writes and not self.is_control and sums == evidence_sums(crate.name, crate_edits):
+            known_evidence.write(self.now, sums, {name: refusal for name, refusal in (rest | refusals).items() if refusal})
 
-    def tried(self, crate, own):
+    def try_edits(self, crate, crate_edits):
         """What refused each of these edits, by name. If a batch of several shows nothing at all, for example because the toolchain
         can't read one of them, its halves are tried."""
-        found = {}
+        refusal_of = {}
         with tempfile.TemporaryDirectory(prefix="mutants-", ignore_cleanup_errors=True) as kept:
             checks = edit_checks.Checks(self.rt, crate, kept)
-            batches = edits.batches_of(own)
+            batches = edits.batches_of(crate_edits)
             while batches:
                 batch = batches.pop(0)
                 began = time.monotonic()
@@ -137,12 +140,12 @@ class Run:
                     batches[:0] = [batch[:half], batch[half:]]
                     continue
                 for edit, refusal in zip(batch, refusals):
-                    found[edit.name] = refusal
-                    self.tell(crate, edit, refusal)
+                    refusal_of[edit.name] = refusal
+                    self.report(crate, edit, refusal)
                 if not all(refusals):
                     lines = [line[:200] for line in said.split("\n") if re.search(r"error|not proved|no proof", line)]
-                    say("\n".join(lines[:40]))
-        return found
+                    print_line("\n".join(lines[:40]))
+        return refusal_of
 
     def refusals(self, checks, batch):
         """What refused each edit of a batch, or None, and the toolchain's output. For a control, whether each function is proved
@@ -152,13 +155,14 @@ class Run:
         goals, said = checks.open_goals(batch, True)
         return [None if own else edit_checks.Refusal("control", "proved without the edit") for own in goals], said
 
-    def tell(self, crate, edit, refusal):
+    def report(self, crate, edit, refusal):
         """Counts and prints the result of one edit."""
         self.counts.add(refusal, True)
         name = f"{crate.name}/{edit.name}"
-        say(f"{name}: {refusal}" if refusal else f"FAILED {name}: {self.failure(edit)}")
+        print_line(f"{name}: {refusal}" if refusal else f"FAILED {name}: {self.failure(edit)}")
 
     def failure(self, edit):
+        """Why an edit is a failure."""
         functions = ", ".join(edit.functions)
         return (
             f"without the edit a goal is open in {functions}"
@@ -173,7 +177,7 @@ class Run:
             self.try_crate(crate)
         except Exception as why:
             where = traceback.extract_tb(why.__traceback__)[-1]
-            say(f"FAILED {crate.name}: {why!r:.300}, at {os.path.basename(where.filename)}:{where.lineno}")
+            print_line(f"FAILED {crate.name}: {why!r:.300}, at {os.path.basename(where.filename)}:{where.lineno}")
             self.counts.fail()
 
 
@@ -183,7 +187,8 @@ def evidence_sums(crate, own):
     return {edit.name: now.sum_of(crate, edit)[:32] for edit in own}
 
 
-def say(text):
+def print_line(text):
+    """Prints a text at once, unless it is empty."""
     if text:
         print(text, flush=True)
 
@@ -195,7 +200,7 @@ def log(crate, batch, began, said):
             file.write(f"==== {time.monotonic() - began:.1f} {[edit.name for edit in batch]}\n{said}\n")
 
 
-def unbuilt(crates, over_ci):
+def why_unbuilt(crates, over_ci):
     """Why the libraries below these crates are not from the current sources, or None. Without `over_ci` they are built."""
     if over_ci:
         return libraries.fault_of(crates)
@@ -230,7 +235,7 @@ def main(words):
             for edit in own:
                 print(f"{name}/{edit.name}: {', '.join(edit.functions)}")
         return 0
-    why = unbuilt(crates, "--over-ci" in words)
+    why = why_unbuilt(crates, "--over-ci" in words)
     if why:
         print(f"FAILED {why}\n0 passed, 1 failed")
         return 1

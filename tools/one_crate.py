@@ -28,7 +28,7 @@ SCRIPTS = {
     "serf_schedule": (UNITS, "tests/program/schedule_cases.py", "tests/program/fault_order.py", "tests/program/rows.py"),
     "serf_write": ("tests/program/write.py",),
     "serf_random": ("tests/program/random_schedules.py",),
-    "serf_conform": ("tests/program/conform.py", "tests/program/conform_seeds.py", "tests/program/python_agent.py"),
+    "serf_conform": ("tests/program/conform.py", "tests/program/conform_seeds.py", "tests/program/conform_without.py", "tests/program/python_agent.py", "tests/program/attest.py"),
     "serf_draw": ("tests/program/draw.py",),
     "serf_explain": ("tests/program/explain.py",),
     "serf_packets": ("tests/program/decode.py", "tests/program/encode.py"),
@@ -36,6 +36,7 @@ SCRIPTS = {
     "serf_json": ("tests/program/json_output.py",),
     "serf_run_json": ("tests/program/json_output.py", "tests/program/replay.py"),
     "serf_judge_json": ("tests/program/json_output.py",),
+    "serf_timeline": ("tests/program/timeline.py",),
     "serf_replay": ("tests/program/replay.py", "tests/program/stream.py"),
     "serf_replay_program": ("tests/program/command_line.py", "tests/program/completions.py", "tests/program/replay.py", "tests/program/capture.py"),
 }
@@ -64,9 +65,9 @@ def run(crate, is_slow):
     passed = 0
     for name, words, folder in commands:
         print(f"-- {name}", flush=True)
-        done = subprocess.run(words, cwd=folder, env={**os.environ, "SERF_UNPROVED": "1"}, stdin=subprocess.DEVNULL)
-        passed += done.returncode == 0
-        if done.returncode:
+        result = subprocess.run(words, cwd=folder, env={**os.environ, "SERF_UNPROVED": "1"}, stdin=subprocess.DEVNULL)
+        passed += result.returncode == 0
+        if result.returncode:
             print(f"FAILED {name}", flush=True)
     for name in left:
         print(f"not run: {name}, which needs what `rt ci` leaves; python3 {name} makes that first")
@@ -75,6 +76,6 @@ def run(crate, is_slow):
 
 def install():
     """Lets tools/packages install what the tests need, if it is allowed to."""
-    done = subprocess.run([os.path.join(TOP, "tools", "packages")], stdin=subprocess.DEVNULL)
-    if done.returncode:
+    result = subprocess.run([os.path.join(TOP, "tools", "packages")], stdin=subprocess.DEVNULL)
+    if result.returncode:
         print("test: continuing without them; the tests that did not run are listed at the end", flush=True)

@@ -32,7 +32,7 @@ PERIOD_SECONDS = 0.05
 ROWS = 40
 
 BEFORE = "(before the first module)"
-BEHIND = "(after the last module)"
+AFTER_MODULES = "(after the last module)"
 FACADE = "(the facade, once all else is proved)"
 LINKS = "(links of functions)"
 
@@ -97,10 +97,10 @@ class Meter:
 
     def __init__(self, process):
         self.times, self.used = [time.time()], [0.0]
-        self.looks = threading.Thread(target=self.look_on, args=(process.pid,), daemon=True)
-        self.looks.start()
+        self.reader = threading.Thread(target=self.read_until_end, args=(process.pid,), daemon=True)
+        self.reader.start()
 
-    def look_on(self, pid):
+    def read_until_end(self, pid):
         try:
             while True:
                 used = used_below(pid)
@@ -155,7 +155,7 @@ class Profile:
             used = meter.used_at(when)
             self.add(row_of(module, name, functions), used - before, 1)
             before = used
-        self.add(BEHIND, meter.used[-1] - before, 0)
+        self.add(AFTER_MODULES, meter.used[-1] - before, 0)
 
     def add(self, row, seconds, count):
         self.seconds[row] = self.seconds.get(row, 0) + seconds
@@ -175,10 +175,10 @@ def proved(crate, begin):
     """Proves a crate from nothing. Returns the process's meter, its output, its status, and the checked modules."""
     with tempfile.TemporaryDirectory() as kept, tempfile.TemporaryFile("w+") as crate.out:
         words = [*begin, "check", *crate.words(["--jobs", "1"]), "--incremental", kept]
-        with subprocess.Popen(words, cwd=crate.folder, stdin=subprocess.DEVNULL, stdout=subprocess.PIPE, stderr=subprocess.STDOUT, text=True, errors="replace") as ran:
-            meter = Meter(ran)
-            said = ran.stdout.read()
-        return meter, said, ran.returncode, checked_modules(kept)
+        with subprocess.Popen(words, cwd=crate.folder, stdin=subprocess.DEVNULL, stdout=subprocess.PIPE, stderr=subprocess.STDOUT, text=True, errors="replace") as process:
+            meter = Meter(process)
+            output = process.stdout.read()
+        return meter, output, process.returncode, checked_modules(kept)
 
 
 def main(name, rows=ROWS):

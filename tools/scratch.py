@@ -19,13 +19,13 @@ def lines_below(uses):
     """The lines of crates.txt of these crates and of those below them, by name."""
     with open(os.path.join(TOP, "crates.txt"), encoding="utf-8") as file:
         lines = {line.split(":")[0]: line for line in file if ":" in line and not line.startswith("#")}
-    found, asked = {}, list(uses)
-    while asked:
-        name = asked.pop()
-        if name in lines and name not in found:
-            found[name] = lines[name]
-            asked += lines[name].split(":")[1].split()
-    return found
+    crate_lines, pending = {}, list(uses)
+    while pending:
+        name = pending.pop()
+        if name in lines and name not in crate_lines:
+            crate_lines[name] = lines[name]
+            pending += lines[name].split(":")[1].split()
+    return crate_lines
 
 
 @contextlib.contextmanager
@@ -54,11 +54,12 @@ def copy_sources(folder, source):
 
 
 def write(source, name, text):
+    """Writes a source of the crate."""
     with open(os.path.join(source, name), "w", encoding="utf-8") as file:
         file.write(text)
 
 
-def tried(source, *words):
+def run_tests(source, *words):
     """Compiles a crate without a proof and runs its tests, each in a separate process. Returns the status and the output."""
-    ran = subprocess.run([*TRY, "--test", "--seconds", "600", *words], cwd=os.path.dirname(source), stdin=subprocess.DEVNULL, stdout=subprocess.PIPE, stderr=subprocess.STDOUT, timeout=3600)
-    return ran.returncode, ran.stdout.decode("utf-8", "replace")
+    result = subprocess.run([*TRY, "--test", "--seconds", "600", *words], cwd=os.path.dirname(source), stdin=subprocess.DEVNULL, stdout=subprocess.PIPE, stderr=subprocess.STDOUT, timeout=3600)
+    return result.returncode, result.stdout.decode("utf-8", "replace")

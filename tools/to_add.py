@@ -2,7 +2,8 @@
 """tools/to_add.py THING: prints the files that name the nearest thing of its kind. If you add another one, inspect these files.
 
 THING is `reason` (why a packet is ignored, for example Oversize, or TimeFull for a reason of the window), `refusal` (for example
-RespondersFull), `word` (of a schedule, for example save) or `field` (of the query, for example relay_factor).
+RespondersFull), `word` (of a schedule, for example save), `field` (of the query, for example relay_factor) or `binding` (for a
+language, for example Rust's).
 """
 
 import os
@@ -18,6 +19,7 @@ THINGS = {
     "refusal": re.compile(r"\b(?:RespondersFull|RESPONDERS_FULL)\b"),
     "word": re.compile(r"\b(?:[Ss]aves?|Saved|saves_so|\w*save_member_clock|SaveMemberClock)\b"),
     "field": re.compile(r"relay_factor|RelayFactor"),
+    "binding": re.compile(r"bindings/rust\b|\"bindings\", \"rust\"|\bcargo\b"),
 }
 
 # Files that name a thing only to test it, or that are made from the sources.
@@ -26,8 +28,8 @@ LEFT_OUT = re.compile(r"/mutants/|/CALLING\.md$|^CHANGELOG\.md$|^tests/refused/|
 
 def files():
     """The files that git tracks, by their paths from the top."""
-    ran = subprocess.run(["git", "ls-files"], cwd=TOP, stdout=subprocess.PIPE, text=True, check=True)
-    return [path for path in ran.stdout.splitlines() if not LEFT_OUT.search(path)]
+    result = subprocess.run(["git", "ls-files"], cwd=TOP, stdout=subprocess.PIPE, text=True, check=True)
+    return [path for path in result.stdout.splitlines() if not LEFT_OUT.search(path)]
 
 
 def files_of(thing):

@@ -19,8 +19,8 @@ const (
 	longest = 5 * time.Second
 )
 
-// least prints the minimum time per call of samples with this many calls. The preparation before each sample is not measured.
-func least(name string, calls int, prepare func(), call func(number int)) {
+// printMinimum prints the minimum time per call of samples with this many calls. The preparation before each sample is not measured.
+func printMinimum(name string, calls int, prepare func(), call func(number int)) {
 	best, spent := time.Duration(1<<62), time.Duration(0)
 	for i := 0; i < samples && spent < longest; i++ {
 		prepare()
@@ -87,7 +87,7 @@ func TestFigures(t *testing.T) {
 		s.eventBuffer, s.eventClock = make([]*userEvents, slots), LamportClock{}
 		s.eventLock.Unlock()
 	}
-	least("decode a user event", slots, nothing, func(number int) {
+	printMinimum("decode a user event", slots, nothing, func(number int) {
 		var found messageUserEvent
 		if err := decodeMessage(packets[number%16][1:], &found); err != nil {
 			t.Fatal(err)
@@ -95,7 +95,7 @@ func TestFigures(t *testing.T) {
 	})
 	forget()
 	d.MergeRemoteState(whole, false)
-	least("receive a repeated event's packet, 1 event a time", slots, nothing, func(number int) { d.NotifyMsg(packets[number]) })
-	least("merge a state of 512 slots, all seen", 1, nothing, func(int) { d.MergeRemoteState(whole, false) })
-	least("merge a state of 512 slots, all new", 1, forget, func(int) { d.MergeRemoteState(whole, false) })
+	printMinimum("receive a repeated event's packet, 1 event a time", slots, nothing, func(number int) { d.NotifyMsg(packets[number]) })
+	printMinimum("merge a state of 512 slots, all seen", 1, nothing, func(int) { d.MergeRemoteState(whole, false) })
+	printMinimum("merge a state of 512 slots, all new", 1, forget, func(int) { d.MergeRemoteState(whole, false) })
 }

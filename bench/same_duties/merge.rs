@@ -316,13 +316,13 @@ impl Buffer {
         self.clock = self.clock.max(state.event_clock);
         let mut rest = state.slots;
         for _ in 0..state.count {
-            let (time, count, mut events, behind) = read_slot(rest)?;
+            let (time, count, mut events, after) = read_slot(rest)?;
             for _ in 0..count {
                 let (event, next) = read_event(events)?;
                 self.receive(time, &event, out)?;
                 events = next;
             }
-            rest = behind;
+            rest = after;
         }
         Ok(())
     }
@@ -347,14 +347,14 @@ fn main() {
     let (mut buffer, mut out) = (Buffer::new(), Vec::new());
     buffer.merge(&packet, &mut out).expect("a state");
     let new = out.len();
-    let mut least = u128::MAX;
+    let mut shortest = u128::MAX;
     for _ in 0..rounds {
         let start = Instant::now();
         buffer
             .merge(std::hint::black_box(&packet), &mut out)
             .expect("a state");
-        least = least.min(start.elapsed().as_nanos());
+        shortest = shortest.min(start.elapsed().as_nanos());
     }
     assert_eq!(out.len(), new, "an event was handed out twice");
-    println!("{least} {new}");
+    println!("{shortest} {new}");
 }

@@ -11,7 +11,7 @@
 #include <stdlib.h>
 #include <string.h>
 
-enum { ROOM = 65536 };
+enum { PACKET_ROOM = 65536 };
 
 struct node {
     const char *name;
@@ -33,65 +33,65 @@ static const struct serf_agent_settings settings = {
 };
 
 /* Ends the program with status 1, because this call of the node failed. */
-static void stop_at(const struct node *node, const char *call, const char *why) {
+static void fail(const struct node *node, const char *call, const char *why) {
     fprintf(stderr, "example: %s: %s: %s\n", node->name, call, why);
     exit(1);
 }
 
-/* Writes what a call left for the file, and flushes it. Returns the call's code. */
-static uint32_t settled(struct node *node, uint32_t code) {
-    enum serf_agent_store_error fault = serf_agent_store_settle(&node->store, &node->agent);
-    if (fault != SERF_AGENT_STORE_OK) {
-        stop_at(node, "the file", serf_agent_store_words(fault));
+/* Writes the bytes that a call left for the file, and flushes them. Returns the call's code. */
+static uint32_t flush_pending(struct node *node, uint32_t code) {
+    enum serf_agent_store_error error = serf_agent_store_settle(&node->store, &node->agent);
+    if (error != SERF_AGENT_STORE_OK) {
+        fail(node, "the file", serf_agent_store_words(error));
     }
     return code;
 }
 
 /* Ends the program if this call of the node returned an error. */
 static void demand_ok(struct node *node, const char *call, uint32_t code) {
-    char words[32];
+    char code_text[32];
     if (code != SERF_AGENT_OK) {
-        snprintf(words, sizeof words, "code %u", code);
-        stop_at(node, call, words);
+        snprintf(code_text, sizeof code_text, "code %u", code);
+        fail(node, call, code_text);
     }
 }
 
-/* Finishes a call that has to succeed: writes what it left for the file, and checks its code. */
-static void done(struct node *node, const char *call, uint32_t code) {
-    demand_ok(node, call, settled(node, code));
+/* Finishes a call that has to succeed: flushes the bytes that it left for the file, and checks its code. */
+static void finish_call(struct node *node, const char *call, uint32_t code) {
+    demand_ok(node, call, flush_pending(node, code));
 }
 
 /* Opens the node's file, and its agent on the text of the file. */
 static void open_node(struct node *node) {
     uint8_t *text;
     size_t len;
-    enum serf_agent_store_error fault = serf_agent_store_open(&node->store, node->path);
-    if (fault == SERF_AGENT_STORE_OK) {
-        fault = serf_agent_store_read(&node->store, &text, &len);
+    enum serf_agent_store_error error = serf_agent_store_open(&node->store, node->path);
+    if (error == SERF_AGENT_STORE_OK) {
+        error = serf_agent_store_read(&node->store, &text, &len);
     }
-    if (fault != SERF_AGENT_STORE_OK) {
-        stop_at(node, node->path, serf_agent_store_words(fault));
+    if (error != SERF_AGENT_STORE_OK) {
+        fail(node, node->path, serf_agent_store_words(error));
     }
-    done(node, "open", serf_agent_open(&node->agent, (const uint8_t *)node->name, strlen(node->name), &settings, text, len));
+    finish_call(node, "open", serf_agent_open(&node->agent, (const uint8_t *)node->name, strlen(node->name), &settings, text, len));
     free(text);
 }
 
-/* Ends the node as a crash of its process would: only the file is left. */
+/* Ends the node as a crash of its process would. Only the file is left. */
 static void crash(struct node *node) {
     serf_agent_close(&node->agent);
     serf_agent_store_close(&node->store);
 }
 
 /* Copies the packet to send that the node's last call made, and returns its length. */
-static size_t packet_of(struct node *node, uint8_t packet[ROOM]) {
+static size_t packet_of(struct node *node, uint8_t packet[PACKET_ROOM]) {
     size_t len = 0;
-    if (serf_agent_packet(&node->agent, &len, packet, ROOM) != SERF_AGENT_OK || len > ROOM) {
-        stop_at(node, "packet", "there is none");
+    if (serf_agent_packet(&node->agent, &len, packet, PACKET_ROOM) != SERF_AGENT_OK || len > PACKET_ROOM) {
+        fail(node, "packet", "there is none");
     }
     return len;
 }
 
-/* The handler of events: it prints them. */
+/* The handler of events. It prints them. */
 static void handle_events(struct node *node) {
     struct serf_agent_event event;
     uint8_t name[512], payload[512];
@@ -102,21 +102,21 @@ static void handle_events(struct node *node) {
 }
 
 /* One node merges the other's state, as it does in a join. */
-static void join(struct node *one, struct node *other) {
-    static uint8_t state[ROOM];
-    done(other, "local_state", serf_agent_local_state(&other->agent));
+static void join(struct node *joiner, struct node *other) {
+    static uint8_t state[PACKET_ROOM];
+    finish_call(other, "local_state", serf_agent_local_state(&other->agent));
     size_t len = packet_of(other, state);
-    uint32_t code = settled(one, serf_agent_merge(&one->agent, state, len, true));
+    uint32_t code = flush_pending(joiner, serf_agent_merge(&joiner->agent, state, len, true));
     /* The events are handled before the code is checked: a merge that ran out of memory returns those that it accepted before,
      * and no later merge returns them again. */
-    handle_events(one);
-    demand_ok(one, "merge", code);
-    printf("%s joined %s\n", one->name, other->name);
+    handle_events(joiner);
+    demand_ok(joiner, "merge", code);
+    printf("%s joined %s\n", joiner->name, other->name);
 }
 
 /* Fires an event, and returns the length of its packet. */
-static size_t fire(struct node *node, const char *name, const char *payload, uint8_t packet[ROOM]) {
-    done(node, "fire", serf_agent_fire(&node->agent, (const uint8_t *)name, strlen(name), (const uint8_t *)payload, strlen(payload), false));
+static size_t fire(struct node *node, const char *name, const char *payload, uint8_t packet[PACKET_ROOM]) {
+    finish_call(node, "fire", serf_agent_fire(&node->agent, (const uint8_t *)name, strlen(name), (const uint8_t *)payload, strlen(payload), false));
     handle_events(node);
     return packet_of(node, packet);
 }
@@ -124,8 +124,8 @@ static size_t fire(struct node *node, const char *name, const char *payload, uin
 /* Passes a packet to a node at this moment, and handles the events that it hands out. */
 static void deliver(struct node *node, uint64_t now, const uint8_t *packet, size_t len) {
     struct serf_agent_result result;
-    done(node, "receive", serf_agent_receive(&node->agent, now, packet, len, false));
-    done(node, "result", serf_agent_result(&node->agent, &result));
+    finish_call(node, "receive", serf_agent_receive(&node->agent, now, packet, len, false));
+    finish_call(node, "result", serf_agent_result(&node->agent, &result));
     handle_events(node);
     if (result.kind == SERF_AGENT_RESULT_IGNORED) {
         printf("%s ignored it: %s\n", node->name, result.reason == SERF_AGENT_SEEN ? "seen" : "below the minimum");
@@ -133,20 +133,20 @@ static void deliver(struct node *node, uint64_t now, const uint8_t *packet, size
 }
 
 /* One node fires a query, and the other acks and answers it. */
-static void ask(struct node *one, struct node *other, uint64_t now, const char *name, const char *answer) {
-    static uint8_t packet[ROOM];
+static void ask(struct node *querier, struct node *answerer, uint64_t now, const char *name, const char *answer) {
+    static uint8_t packet[PACKET_ROOM];
     struct serf_agent_params params = {.timeout = 1000, .want_ack = true};
     struct serf_agent_result result;
     size_t len;
-    done(one, "query", serf_agent_query(&one->agent, now, 7, (const uint8_t *)name, strlen(name), NULL, 0, NULL, 0, &params));
-    len = packet_of(one, packet);
-    deliver(other, now, packet, len);
-    done(other, "result", serf_agent_result(&other->agent, &result));
-    done(other, "ack", serf_agent_ack(&other->agent, &len, packet, ROOM));
-    deliver(one, now, packet, len);
-    done(other, "respond", serf_agent_respond(&other->agent, now, result.handed, (const uint8_t *)answer, strlen(answer)));
-    len = packet_of(other, packet);
-    deliver(one, now, packet, len);
+    finish_call(querier, "query", serf_agent_query(&querier->agent, now, 7, (const uint8_t *)name, strlen(name), NULL, 0, NULL, 0, &params));
+    len = packet_of(querier, packet);
+    deliver(answerer, now, packet, len);
+    finish_call(answerer, "result", serf_agent_result(&answerer->agent, &result));
+    finish_call(answerer, "ack", serf_agent_ack(&answerer->agent, &len, packet, PACKET_ROOM));
+    deliver(querier, now, packet, len);
+    finish_call(answerer, "respond", serf_agent_respond(&answerer->agent, now, result.handed, (const uint8_t *)answer, strlen(answer)));
+    len = packet_of(answerer, packet);
+    deliver(querier, now, packet, len);
 }
 
 /* Closes the queries that are due, and prints their answers. */
@@ -155,7 +155,7 @@ static void close_due(struct node *node, uint64_t now) {
     struct serf_agent_response response;
     uint8_t from[128], payload[1024];
     size_t count, len;
-    done(node, "close_due", serf_agent_close_due(&node->agent, now, &count));
+    finish_call(node, "close_due", serf_agent_close_due(&node->agent, now, &count));
     for (size_t i = 0; serf_agent_closed(&node->agent, i, &closed) == SERF_AGENT_OK; i++) {
         for (size_t j = 0; serf_agent_closed_ack(&node->agent, i, j, &len, from, sizeof from) == SERF_AGENT_OK; j++) {
             printf("%.*s acked the query of %s\n", (int)len, from, node->name);
@@ -166,16 +166,16 @@ static void close_due(struct node *node, uint64_t now) {
     }
 }
 
-int main(int count, char **words) {
+int main(int count, char **arguments) {
     static struct node alpha = {.name = "alpha"}, beta = {.name = "beta"};
-    static uint8_t packet[ROOM];
+    static uint8_t packet[PACKET_ROOM];
     struct serf_agent_clocks clocks;
     if (count != 2) {
         fprintf(stderr, "example FOLDER\n");
         return 2;
     }
-    snprintf(alpha.path, sizeof alpha.path, "%s/alpha.snapshot", words[1]);
-    snprintf(beta.path, sizeof beta.path, "%s/beta.snapshot", words[1]);
+    snprintf(alpha.path, sizeof alpha.path, "%s/alpha.snapshot", arguments[1]);
+    snprintf(beta.path, sizeof beta.path, "%s/beta.snapshot", arguments[1]);
     open_node(&alpha);
     open_node(&beta);
     join(&alpha, &beta);
@@ -187,7 +187,7 @@ int main(int count, char **words) {
 
     crash(&beta);
     open_node(&beta);
-    done(&beta, "clocks", serf_agent_clocks(&beta.agent, &clocks));
+    finish_call(&beta, "clocks", serf_agent_clocks(&beta.agent, &clocks));
     printf("beta crashed, and is back at %llu\n", (unsigned long long)clocks.event);
     deliver(&beta, 3, packet, len);
 

@@ -12,11 +12,11 @@
 #include <sys/stat.h>
 #include <unistd.h>
 
-/* How often opening starts again because the file was replaced between its opening and its lock. */
-enum { TRIES = 100 };
+/* The maximum number of attempts to open the file, if it is replaced each time after its opening and before its lock. */
+enum { MAX_ATTEMPTS = 100 };
 
-/* The store's error for a value of errno. */
-static enum serf_agent_store_error fault_of(int error) {
+/* Returns the store's error for a value of errno. */
+static enum serf_agent_store_error store_error_of(int error) {
     switch (error) {
     case EWOULDBLOCK:
         return SERF_AGENT_STORE_LOCKED;
@@ -42,8 +42,8 @@ static enum serf_agent_store_error fault_of(int error) {
     }
 }
 
-const char *serf_agent_store_words(enum serf_agent_store_error fault) {
-    switch (fault) {
+const char *serf_agent_store_words(enum serf_agent_store_error error) {
+    switch (error) {
     case SERF_AGENT_STORE_OK:
         return "no error";
     case SERF_AGENT_STORE_LOCKED:
@@ -67,44 +67,44 @@ const char *serf_agent_store_words(enum serf_agent_store_error fault) {
 }
 
 /* Sets the name of the file that a replacement writes first. Returns false if it is too long. */
-static bool name_beside(const struct serf_agent_store *store, char beside[NAME_MAX + 1]) {
-    return snprintf(beside, NAME_MAX + 1, "%s.new", store->name) <= NAME_MAX;
+static bool set_new_name(const struct serf_agent_store *store, char new_name[NAME_MAX + 1]) {
+    return snprintf(new_name, NAME_MAX + 1, "%s.new", store->name) <= NAME_MAX;
 }
 
 /* Opens the folder of a path, and stores the file's name. Returns false after an error, which is in errno. */
 static bool open_folder(struct serf_agent_store *store, const char *path) {
-    char *whole = realpath(path, NULL);
-    if (whole == NULL && errno == ENOENT) {
-        whole = strdup(path);
+    char *resolved = realpath(path, NULL);
+    if (resolved == NULL && errno == ENOENT) {
+        resolved = strdup(path);
     }
-    char *copy = whole == NULL ? NULL : strdup(whole);
-    if (copy != NULL) {
-        store->folder = open(dirname(copy), O_RDONLY | O_DIRECTORY | O_CLOEXEC);
+    char *folder_path = resolved == NULL ? NULL : strdup(resolved);
+    if (folder_path != NULL) {
+        store->folder = open(dirname(folder_path), O_RDONLY | O_DIRECTORY | O_CLOEXEC);
         if (store->folder >= 0) {
-            store->name = strdup(basename(whole));
+            store->name = strdup(basename(resolved));
         }
     }
     int error = errno;
-    free(copy);
-    free(whole);
+    free(folder_path);
+    free(resolved);
     errno = error;
     return store->name != NULL;
 }
 
-/* Whether the open file still has its name. */
-static bool is_current(const struct serf_agent_store *store) {
-    struct stat own, named;
-    return fstat(store->file, &own) == 0 && fstatat(store->folder, store->name, &named, AT_SYMLINK_NOFOLLOW) == 0 &&
-           own.st_dev == named.st_dev && own.st_ino == named.st_ino;
+/* Returns whether the open file still has its name. */
+static bool is_still_at_path(const struct serf_agent_store *store) {
+    struct stat opened, at_path;
+    return fstat(store->file, &opened) == 0 && fstatat(store->folder, store->name, &at_path, AT_SYMLINK_NOFOLLOW) == 0 &&
+           opened.st_dev == at_path.st_dev && opened.st_ino == at_path.st_ino;
 }
 
-/* Whether an open file is a regular file. If it isn't, errno is EISDIR. */
-static bool is_plain(int file) {
-    struct stat about;
-    if (fstat(file, &about) != 0) {
+/* Returns whether an open file is a regular file. If it isn't, errno is EISDIR. */
+static bool is_regular_file(int file) {
+    struct stat info;
+    if (fstat(file, &info) != 0) {
         return false;
     }
-    if (!S_ISREG(about.st_mode)) {
+    if (!S_ISREG(info.st_mode)) {
         errno = EISDIR;
         return false;
     }
@@ -113,13 +113,13 @@ static bool is_plain(int file) {
 
 /* Opens and locks the file that has the name at present. Returns false after an error, which is in errno. */
 static bool open_file(struct serf_agent_store *store) {
-    const int how = O_RDWR | O_APPEND | O_CREAT | O_CLOEXEC | O_NOFOLLOW | O_NONBLOCK;
-    for (int tried = 0; tried < TRIES; tried++) {
-        store->file = openat(store->folder, store->name, how, 0600);
-        if (store->file < 0 || !is_plain(store->file) || flock(store->file, LOCK_EX | LOCK_NB) != 0) {
+    const int flags = O_RDWR | O_APPEND | O_CREAT | O_CLOEXEC | O_NOFOLLOW | O_NONBLOCK;
+    for (int attempt = 0; attempt < MAX_ATTEMPTS; attempt++) {
+        store->file = openat(store->folder, store->name, flags, 0600);
+        if (store->file < 0 || !is_regular_file(store->file) || flock(store->file, LOCK_EX | LOCK_NB) != 0) {
             return false;
         }
-        if (is_current(store)) {
+        if (is_still_at_path(store)) {
             return true;
         }
         close(store->file);
@@ -129,22 +129,22 @@ static bool open_file(struct serf_agent_store *store) {
     return false;
 }
 
-/* Removes what a crash left of a replacement, and flushes the file and its folder. Returns false after an error, which is in
- * errno. */
-static bool settle(struct serf_agent_store *store) {
-    char beside[NAME_MAX + 1];
-    if (!name_beside(store, beside)) {
+/* Removes the new file that a crash left of a replacement, and flushes the file and its folder. Returns false after an
+ * error, which is in errno. */
+static bool finish_opening(struct serf_agent_store *store) {
+    char new_name[NAME_MAX + 1];
+    if (!set_new_name(store, new_name)) {
         errno = ENAMETOOLONG;
         return false;
     }
-    if (unlinkat(store->folder, beside, 0) != 0 && errno != ENOENT) {
+    if (unlinkat(store->folder, new_name, 0) != 0 && errno != ENOENT) {
         return false;
     }
     return fsync(store->file) == 0 && fsync(store->folder) == 0;
 }
 
-/* Closes and frees everything that the store has. */
-static void let_go(struct serf_agent_store *store) {
+/* Closes the store's descriptors and frees its memory. */
+static void free_store(struct serf_agent_store *store) {
     if (store->file >= 0) {
         close(store->file);
     }
@@ -160,41 +160,41 @@ enum serf_agent_store_error serf_agent_store_open(struct serf_agent_store *store
         return SERF_AGENT_STORE_LOCKED;
     }
     *store = (struct serf_agent_store){false, false, -1, -1, NULL};
-    if (open_folder(store, path) && open_file(store) && settle(store)) {
+    if (open_folder(store, path) && open_file(store) && finish_opening(store)) {
         store->is_open = true;
         return SERF_AGENT_STORE_OK;
     }
     int error = errno;
-    let_go(store);
+    free_store(store);
     errno = error;
-    return fault_of(error);
+    return store_error_of(error);
 }
 
 enum serf_agent_store_error serf_agent_store_read(struct serf_agent_store *store, uint8_t **text, size_t *len) {
-    struct stat about;
+    struct stat info;
     *text = NULL;
     *len = 0;
     if (!store->is_open) {
         return SERF_AGENT_STORE_BROKEN;
     }
-    if (fstat(store->file, &about) != 0) {
-        return fault_of(errno);
+    if (fstat(store->file, &info) != 0) {
+        return store_error_of(errno);
     }
-    size_t size = (size_t)about.st_size, at = 0;
+    size_t size = (size_t)info.st_size, read_len = 0;
     uint8_t *bytes = malloc(size == 0 ? 1 : size);
     if (bytes == NULL) {
         return SERF_AGENT_STORE_NO_MEMORY;
     }
-    while (at < size) {
-        ssize_t count = pread(store->file, bytes + at, size - at, (off_t)at);
+    while (read_len < size) {
+        ssize_t count = pread(store->file, bytes + read_len, size - read_len, (off_t)read_len);
         if (count < 0 && errno == EINTR) {
             continue;
         }
         if (count <= 0) {
             free(bytes);
-            return count < 0 ? fault_of(errno) : SERF_AGENT_STORE_FAILED;
+            return count < 0 ? store_error_of(errno) : SERF_AGENT_STORE_FAILED;
         }
-        at += (size_t)count;
+        read_len += (size_t)count;
     }
     *text = bytes;
     *len = size;
@@ -218,10 +218,10 @@ static bool write_all(int file, const uint8_t *bytes, size_t len) {
 }
 
 /* Marks the store as broken because of this value of errno, and returns the store's error for it. */
-static enum serf_agent_store_error broken_by(struct serf_agent_store *store, int error) {
+static enum serf_agent_store_error break_store(struct serf_agent_store *store, int error) {
     store->is_broken = true;
     errno = error;
-    return fault_of(error);
+    return store_error_of(error);
 }
 
 enum serf_agent_store_error serf_agent_store_append(struct serf_agent_store *store, const uint8_t *bytes, size_t len) {
@@ -232,92 +232,92 @@ enum serf_agent_store_error serf_agent_store_append(struct serf_agent_store *sto
         return SERF_AGENT_STORE_OK;
     }
     if (!write_all(store->file, bytes, len) || fdatasync(store->file) != 0) {
-        return broken_by(store, errno);
+        return break_store(store, errno);
     }
     return SERF_AGENT_STORE_OK;
 }
 
-/* Creates a file with this name next to the old one, locked, with the old one's permissions and these bytes, flushed. Returns its
- * descriptor, or -1 after an error. */
-static int written_beside(struct serf_agent_store *store, const char *beside, const uint8_t *bytes, size_t len) {
-    struct stat about;
-    if (fstat(store->file, &about) != 0) {
+/* Creates a file with this name next to the old one, and locks it. It has the old file's permissions and these bytes, and is
+ * flushed. Returns the file's descriptor, or -1 after an error. */
+static int write_new_file(struct serf_agent_store *store, const char *new_name, const uint8_t *bytes, size_t len) {
+    struct stat info;
+    if (fstat(store->file, &info) != 0) {
         return -1;
     }
-    int file = openat(store->folder, beside, O_RDWR | O_APPEND | O_CREAT | O_EXCL | O_CLOEXEC, 0600);
+    int file = openat(store->folder, new_name, O_RDWR | O_APPEND | O_CREAT | O_EXCL | O_CLOEXEC, 0600);
     if (file < 0) {
         return -1;
     }
-    if (flock(file, LOCK_EX | LOCK_NB) == 0 && fchmod(file, about.st_mode & 0777) == 0 && write_all(file, bytes, len) &&
+    if (flock(file, LOCK_EX | LOCK_NB) == 0 && fchmod(file, info.st_mode & 0777) == 0 && write_all(file, bytes, len) &&
         fsync(file) == 0) {
         return file;
     }
     int error = errno;
     close(file);
-    unlinkat(store->folder, beside, 0);
+    unlinkat(store->folder, new_name, 0);
     errno = error;
     return -1;
 }
 
 enum serf_agent_store_error serf_agent_store_replace(struct serf_agent_store *store, const uint8_t *bytes, size_t len) {
-    char beside[NAME_MAX + 1];
+    char new_name[NAME_MAX + 1];
     if (!store->is_open || store->is_broken) {
         return SERF_AGENT_STORE_BROKEN;
     }
-    if (!name_beside(store, beside)) {
-        return broken_by(store, ENAMETOOLONG);
+    if (!set_new_name(store, new_name)) {
+        return break_store(store, ENAMETOOLONG);
     }
-    int file = written_beside(store, beside, bytes, len);
+    int file = write_new_file(store, new_name, bytes, len);
     if (file < 0) {
-        return broken_by(store, errno);
+        return break_store(store, errno);
     }
-    if (renameat(store->folder, beside, store->folder, store->name) != 0) {
+    if (renameat(store->folder, new_name, store->folder, store->name) != 0) {
         int error = errno;
         close(file);
-        unlinkat(store->folder, beside, 0);
-        return broken_by(store, error);
+        unlinkat(store->folder, new_name, 0);
+        return break_store(store, error);
     }
     close(store->file);
     store->file = file;
     if (fsync(store->folder) != 0) {
-        return broken_by(store, errno);
+        return break_store(store, errno);
     }
     return SERF_AGENT_STORE_OK;
 }
 
 /* Writes the agent's pending bytes, which have this length, to the file. */
-static enum serf_agent_store_error take(struct serf_agent_store *store, struct serf_agent *agent, size_t len) {
-    struct serf_agent_bytes about = {0};
+static enum serf_agent_store_error write_pending(struct serf_agent_store *store, struct serf_agent *agent, size_t len) {
+    struct serf_agent_bytes pending = {0};
     uint8_t *bytes = malloc(len == 0 ? 1 : len);
     if (bytes == NULL) {
         return SERF_AGENT_STORE_NO_MEMORY;
     }
-    serf_agent_pending(agent, &about, bytes, len);
-    enum serf_agent_store_error fault = about.replaces ? serf_agent_store_replace(store, bytes, about.len)
-                                                       : serf_agent_store_append(store, bytes, about.len);
+    serf_agent_pending(agent, &pending, bytes, len);
+    enum serf_agent_store_error error = pending.replaces ? serf_agent_store_replace(store, bytes, pending.len)
+                                                         : serf_agent_store_append(store, bytes, pending.len);
     free(bytes);
-    return fault;
+    return error;
 }
 
 enum serf_agent_store_error serf_agent_store_settle(struct serf_agent_store *store, struct serf_agent *agent) {
-    struct serf_agent_bytes about = {0};
-    uint8_t none = 0;
-    if (serf_agent_pending(agent, &about, &none, 0) != SERF_AGENT_OK || (about.len == 0 && !about.replaces)) {
+    struct serf_agent_bytes pending = {0};
+    uint8_t no_bytes = 0;
+    if (serf_agent_pending(agent, &pending, &no_bytes, 0) != SERF_AGENT_OK || (pending.len == 0 && !pending.replaces)) {
         return SERF_AGENT_STORE_OK;
     }
-    enum serf_agent_store_error fault = take(store, agent, about.len);
-    if (fault == SERF_AGENT_STORE_OK) {
+    enum serf_agent_store_error error = write_pending(store, agent, pending.len);
+    if (error == SERF_AGENT_STORE_OK) {
         serf_agent_flushed(agent);
     } else {
-        int error = errno;
+        int cause = errno;
         serf_agent_close(agent);
-        errno = error;
+        errno = cause;
     }
-    return fault;
+    return error;
 }
 
 void serf_agent_store_close(struct serf_agent_store *store) {
     if (store->is_open) {
-        let_go(store);
+        free_store(store);
     }
 }

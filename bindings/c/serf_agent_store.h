@@ -67,7 +67,7 @@ enum serf_agent_store_error serf_agent_store_read(struct serf_agent_store *store
 /* Appends these bytes and flushes them to the disk. It does nothing if there are none. */
 enum serf_agent_store_error serf_agent_store_append(struct serf_agent_store *store, const uint8_t *bytes, size_t len);
 
-/* Replaces the file's content durably by these bytes. */
+/* Replaces the file's content durably with these bytes. */
 enum serf_agent_store_error serf_agent_store_replace(struct serf_agent_store *store, const uint8_t *bytes, size_t len);
 
 /* Writes the bytes that are pending after the agent's last call, or after the calls of a burst, flushes them, and confirms this to
@@ -79,7 +79,7 @@ enum serf_agent_store_error serf_agent_store_settle(struct serf_agent_store *sto
 void serf_agent_store_close(struct serf_agent_store *store);
 
 /* Describes an error, for example "another agent has the file". */
-const char *serf_agent_store_words(enum serf_agent_store_error fault);
+const char *serf_agent_store_words(enum serf_agent_store_error error);
 
 #ifdef __cplusplus
 }

@@ -3,7 +3,7 @@
 
 #include "serf_agent.h"
 
-/* (tests/repository/version.py compares it with the file VERSION) */
+/* (tests/repository/version.py compares this text with the file VERSION) */
 static const char version[] = "0.2.0";
 
 const char *serf_agent_version(void) {

@@ -1,6 +1,6 @@
 /* The codes, reasons and errors of serf_agent.h as sentences, and the version of the library at run time.
  *
- * Each sentence is in English, begins with a small letter and has no full stop, as those of strerror(3). It belongs to the library:
+ * Each sentence is in English, begins with a small letter and has no full stop, like those of strerror(3). It belongs to the library:
  * it stays valid, and nobody frees it. For a number that this version doesn't know, the sentence says so. The calls need no handle,
  * allocate no memory, and may be made by any thread.
  *

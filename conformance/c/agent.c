@@ -16,12 +16,12 @@ static bool keeps;
 static char *words[WORDS];
 static size_t count;
 /* The queries that were handed out in this life: the packet, the moment at which it arrived, and whether it can still be answered. */
-static struct asked {
+static struct pending_query {
     struct bytes packet;
     uint64_t now;
     bool waits;
-} *asked;
-static size_t asked_count;
+} *pending_queries;
+static size_t pending_count;
 
 static uint64_t number_of(size_t word) {
     return strtoull(words[word], NULL, 10);
@@ -40,16 +40,16 @@ static void settle(void) {
 }
 
 /* Prints the packets, the events and the query of the call's result. */
-static void put_given(const struct serf_agent_result *result) {
+static void write_given(const struct serf_agent_result *result) {
     static uint8_t one[ROOM], two[ROOM];
     struct serf_agent_event event;
     struct serf_agent_pending_query query;
     size_t len;
     if (serf_agent_packet(given, &len, one, ROOM) == SERF_AGENT_OK) {
-        put_line("sent", (struct bytes){one, len});
+        write_line("sent", (struct bytes){one, len});
     }
     if (serf_agent_ack(given, &len, one, ROOM) == SERF_AGENT_OK) {
-        put_line("sent", (struct bytes){one, len});
+        write_line("sent", (struct bytes){one, len});
     }
     for (size_t i = 0; serf_agent_event(given, i, &event, one, ROOM, two, ROOM) == SERF_AGENT_OK; i++) {
         printf("event %llu", (number)event.time);
@@ -63,24 +63,24 @@ static void put_given(const struct serf_agent_result *result) {
     }
 }
 
-static void put_received(const struct serf_agent_result *result, struct bytes packet) {
+static void write_received(const struct serf_agent_result *result, struct bytes packet) {
     printf("%s%s", kinds[result->kind], result->kind == SERF_AGENT_RESULT_IGNORED ? reasons[result->reason] : "");
     printf(result->kind == SERF_AGENT_RESULT_FOREIGN ? "%u\n" : "\n", result->foreign);
     if (result->kind == SERF_AGENT_RESULT_ACK || result->kind == SERF_AGENT_RESULT_RESPONSE) {
-        put_counted(packet);
+        write_counted(packet);
     }
     if (result->rebroadcast) {
-        put_line("sent", packet);
+        write_line("sent", packet);
     }
 }
 
-static void put_clocks(const char *answer) {
+static void write_clocks(const char *answer) {
     struct serf_agent_clocks clocks = {0};
     serf_agent_clocks(&agent, &clocks);
     printf("%s %llu %llu %llu", answer, (number)clocks.member, (number)clocks.event, (number)clocks.query);
     if (answer[0] == 'l') {
         printf(" %llu %llu\n", (number)clocks.event_minimum, (number)clocks.query_minimum);
-        put_line("kept", text);
+        write_line("kept", text);
     } else {
         putchar('\n');
     }
@@ -89,11 +89,11 @@ static void put_clocks(const char *answer) {
 /* Opens the agent, or opens it again, on its snapshot's text followed by more bytes. */
 static void open_on(struct bytes more, const char *answer) {
     serf_agent_close(&agent);
-    asked_count = 0;
+    pending_count = 0;
     append(&text, more);
     serf_agent_open(&agent, name.at, name.len, &settings, text.at, text.len);
     settle();
-    put_clocks(answer);
+    write_clocks(answer);
 }
 
 /* Makes an agent. A limit of 0 is unsupported, because the library uses Serf's own limit for it. */
@@ -122,15 +122,15 @@ static void make(void) {
 
 /* Remembers the packet of a query that was handed out. */
 static void remember(struct bytes packet, uint64_t now) {
-    asked = realloc(asked, (asked_count + 1) * sizeof *asked);
-    asked[asked_count] = (struct asked){.now = now, .waits = true};
-    append(&asked[asked_count++].packet, packet);
+    pending_queries = realloc(pending_queries, (pending_count + 1) * sizeof *pending_queries);
+    pending_queries[pending_count] = (struct pending_query){.now = now, .waits = true};
+    append(&pending_queries[pending_count++].packet, packet);
 }
 
 /* Answers a query. Unlike a host's clock, the moments of a schedule may go back. So if the library has forgotten a query, because an
  * earlier call had a moment after its deadline, another agent receives the query again and answers it. */
 static uint32_t respond(uint64_t now, uint64_t query, struct bytes payload) {
-    struct asked *one = query < asked_count ? &asked[query] : NULL;
+    struct pending_query *one = query < pending_count ? &pending_queries[query] : NULL;
     uint32_t code = serf_agent_respond(&agent, now, query + 1, payload.at, payload.len);
     if (code == SERF_AGENT_NOT_PENDING && one != NULL && one->waits) {
         given = &other;
@@ -200,12 +200,12 @@ static void reply_to_call(const char *call) {
     uint32_t code = called(call, &answer, &one);
     settle();
     if (code == SERF_AGENT_NO_MESSAGE) {
-        put_packet_fault(one);
+        write_packet_error(one);
         return;
     }
     if (code != SERF_AGENT_OK) {
-        const char *fault = code <= SERF_AGENT_NOT_PENDING ? faults[code] : NULL;
-        printf("%s%s\n", fault != NULL ? "refused " : "unsupported", fault != NULL ? fault : "");
+        const char *refusal = code <= SERF_AGENT_NOT_PENDING ? refusals[code] : NULL;
+        printf("%s%s\n", refusal != NULL ? "refused " : "unsupported", refusal != NULL ? refusal : "");
         return;
     }
     serf_agent_result(given, &result);
@@ -216,13 +216,13 @@ static void reply_to_call(const char *call) {
         remember(call[0] == 'q' ? (struct bytes){fired, len} : one, number_of(call[0] == 'q' ? 1 : 2));
     }
     if (answer == NULL) {
-        put_received(&result, one);
+        write_received(&result, one);
     } else if (call[0] == 'f' || call[0] == 'q') {
         printf("%s %llu\n", answer, (number)(call[0] == 'f' ? before.event : before.query));
     } else {
         puts(answer);
     }
-    put_given(&result);
+    write_given(&result);
 }
 
 static void reply(const char *call) {
@@ -240,7 +240,7 @@ static void reply(const char *call) {
         serf_agent_close_due(&agent, number_of(1), &closed);
         printf("closed %zu\n", closed);
     } else if (strcmp(call, "look") == 0) {
-        put_clocks("looked");
+        write_clocks("looked");
     } else {
         reply_to_call(call);
     }

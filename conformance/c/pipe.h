@@ -15,7 +15,7 @@ struct bytes {
     size_t len;
 };
 
-static const char *const faults[SERF_AGENT_NOT_PENDING + 1] = {
+static const char *const refusals[SERF_AGENT_NOT_PENDING + 1] = {
     [SERF_AGENT_STOPPED] = "Stopped",           [SERF_AGENT_TOO_LARGE] = "TooLarge",
     [SERF_AGENT_EXHAUSTED] = "Exhausted",       [SERF_AGENT_RESPONDERS_FULL] = "RespondersFull",
     [SERF_AGENT_NOT_PUSH_PULL] = "NotPushPull", [SERF_AGENT_TOO_LONG] = "TooLong",
@@ -26,7 +26,7 @@ static const char *const reasons[] = {"",          "Oversize", "BelowMinimum", "
                                       "NotOpen",   "OtherId",  "Closed",       "AckNotAsked", "AckTwice", "ResponseTwice"};
 static const char *const kinds[] = {"", "new", "query", "ack", "response", "ignored ", "foreign ", "push-pull"};
 
-static const char *const packet_faults[] = {"",        "Empty",  "UnknownType", "Truncated", "Unsupported", "TooDeep",   "Trailing",
+static const char *const packet_errors[] = {"",        "Empty",  "UnknownType", "Truncated", "Unsupported", "TooDeep",   "Trailing",
                                             "NotAMap", "BadKey", "Twice",       "WrongKind", "OutOfRange",  "GreatestTime"};
 
 static int digit(int of) {
@@ -58,28 +58,28 @@ static void put(const uint8_t *bytes, size_t len, const char *end) {
 }
 
 /* Prints a line with a word and bytes. */
-static void put_line(const char *word, struct bytes bytes) {
+static void write_line(const char *word, struct bytes bytes) {
     fputs(word, stdout);
     put(bytes.at, bytes.len, "\n");
 }
 
 /* Prints the line for a packet that is no message: what is wrong with it, with the byte and the place. */
-static void put_packet_fault(struct bytes packet) {
-    struct serf_agent_packet_error fault = {0};
-    serf_agent_packet_error(packet.at, packet.len, &fault);
-    printf("refused Wire %s", packet_faults[fault.kind]);
-    if (fault.kind == SERF_AGENT_ERROR_UNKNOWN_TYPE || fault.kind == SERF_AGENT_ERROR_UNSUPPORTED) {
-        printf(" %u", fault.byte);
+static void write_packet_error(struct bytes packet) {
+    struct serf_agent_packet_error error = {0};
+    serf_agent_packet_error(packet.at, packet.len, &error);
+    printf("refused Wire %s", packet_errors[error.kind]);
+    if (error.kind == SERF_AGENT_ERROR_UNKNOWN_TYPE || error.kind == SERF_AGENT_ERROR_UNSUPPORTED) {
+        printf(" %u", error.byte);
     }
     /* The place is never that of the type, so 0 means that there is none. */
-    if (fault.offset != 0) {
-        printf(" %zu", fault.offset);
+    if (error.offset != 0) {
+        printf(" %zu", error.offset);
     }
     putchar('\n');
 }
 
 /* Prints the line for an answer that was counted, from its packet. */
-static void put_counted(struct bytes packet) {
+static void write_counted(struct bytes packet) {
     static uint8_t from[1 << 20], payload[1 << 20];
     struct serf_agent_answer said;
     serf_agent_answer(packet.at, packet.len, &said, from, sizeof from, payload, sizeof payload);

@@ -8,7 +8,7 @@ import (
 	"bytes"
 	"encoding/hex"
 	"fmt"
-	"io/ioutil"
+	"io"
 	"log"
 	"math"
 	"os"
@@ -62,9 +62,9 @@ type PipeAgent struct {
 func NewPipeAgent() *PipeAgent {
 	kept := &keptPackets{Transport: (&memberlist.MockNetwork{}).NewTransport("pipe")}
 	settings := memberlist.DefaultLANConfig()
-	settings.Name, settings.Transport, settings.EnableCompression, settings.LogOutput = "pipe", kept, false, ioutil.Discard
+	settings.Name, settings.Transport, settings.EnableCompression, settings.LogOutput = "pipe", kept, false, io.Discard
 	settings.ProbeInterval, settings.GossipInterval, settings.PushPullInterval = 0, 0, 0
-	return &PipeAgent{folder: got(ioutil.TempDir("", "serf")), kept: kept, members: got(memberlist.Create(settings))}
+	return &PipeAgent{folder: got(os.MkdirTemp("", "serf")), kept: kept, members: got(memberlist.Create(settings))}
 }
 
 // Close removes the agent's folder.
@@ -114,7 +114,7 @@ func queue() *memberlist.TransmitLimitedQueue {
 
 // live opens an agent on its snapshot, as Create does.
 func (a *PipeAgent) live() {
-	logger := log.New(ioutil.Discard, "", 0)
+	logger := log.New(io.Discard, "", 0)
 	file := got(os.OpenFile(a.path(), os.O_RDWR|os.O_APPEND|os.O_CREATE, 0644))
 	a.events = make(chan Event, 1<<16)
 	a.config.EventCh = a.events
@@ -199,14 +199,14 @@ func (a *PipeAgent) restartOn(text []byte, answer string) string {
 	if a.snap != nil {
 		a.snap.fh.Close()
 	}
-	must(ioutil.WriteFile(a.path(), text, 0644))
+	must(os.WriteFile(a.path(), text, 0644))
 	a.live()
 	return fmt.Sprintf("%s %d %d %d", answer, a.serf.clock.Time(), a.serf.eventClock.Time(), a.serf.queryClock.Time())
 }
 
 func (a *PipeAgent) restart(words []string) string {
 	a.snap.buffered.Flush()
-	return a.restartOn(append(got(ioutil.ReadFile(a.path())), unhexed(words[0])...), "restarted")
+	return a.restartOn(append(got(os.ReadFile(a.path())), unhexed(words[0])...), "restarted")
 }
 
 // look returns Serf's state: its clocks, its minimum times, and its snapshot's text.
@@ -214,7 +214,7 @@ func (a *PipeAgent) look([]string) string {
 	a.snap.buffered.Flush()
 	s := a.serf
 	return fmt.Sprintf("looked %d %d %d %d %d\nkept %s", s.clock.Time(), s.eventClock.Time(), s.queryClock.Time(), s.eventMinTime, s.queryMinTime,
-		hexed(got(ioutil.ReadFile(a.path()))))
+		hexed(got(os.ReadFile(a.path()))))
 }
 
 func (a *PipeAgent) save([]string) string { a.snap.updateClock(); return "saved" }

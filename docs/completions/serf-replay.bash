@@ -17,8 +17,12 @@ _serf_replay() {
         'draw --event') : ;;
         'judge --format') words='text json' ;;
         'judge --kept') : ;;
+        'timeline --log') : ;;
+        'timeline --kept') : ;;
+        'timeline --title') : ;;
         'conform --agent') : ;;
         'conform --rules') words='serf own' ;;
+        'conform --without') : ;;
         'conform --random') : ;;
         'conform --kind') words='mixed tiny merges restarts devices injections queries limits exhaustion per-time compactions gossip spellings kept rounds all' ;;
         'conform --agents') : ;;
@@ -41,7 +45,8 @@ _serf_replay() {
             draw) words='--as --agent --from --to --taken --event --help' files=yes ;;
             write) words='--help' files=yes ;;
             judge) words='--missed --format --own --serf --kept --help' files=yes ;;
-            conform) words='--agent --rules --random --kind --agents --actions --go-on --shrink --save --report --help' files=yes ;;
+            timeline) words='--log --kept --title --help' files=yes ;;
+            conform) words='--agent --rules --without --random --kind --agents --actions --go-on --shrink --save --report --help' files=yes ;;
             random) words='--kind --agents --actions --fanout --loss --rounds --rules --help' ;;
             decode) words='--format --help' ;;
             encode) words='--help' ;;
@@ -49,7 +54,7 @@ _serf_replay() {
             help) words='' ;;
         esac
     esac
-    ((COMP_CWORD == 1)) && words='replay explain draw write judge conform random decode encode clocks help --help --version' files=
+    ((COMP_CWORD == 1)) && words='replay explain draw write judge timeline conform random decode encode clocks help --help --version' files=
     COMPREPLY=()
     if [[ -n $words && ($word == -* || -z $files) ]]; then
         mapfile -t COMPREPLY < <(compgen -W "$words" -- "$word")

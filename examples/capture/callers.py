@@ -20,21 +20,21 @@ import memberlist
 Record = collections.namedtuple("Record", "time events clock is_all slots")
 
 
-def tried(read, *words):
+def read_or_none(read, *arguments):
     """What a reader returns, or None if the bytes can't be read. The story counts these."""
     try:
-        return read(*words)
+        return read(*arguments)
     except memberlist.FrameError:
         return None
 
 
-def part_of(connection, end, key):
+def state_part(connection, end, key):
     """What one end sent as a whole state: its names, each with whether it runs, and Serf's part; None if it sent none."""
     sent = connection.sent_by(end)
-    found = sent and tried(memberlist.state_of, sent[1], key)
-    if not found or found[0] != memberlist.STATE:
+    parsed_state = sent and read_or_none(memberlist.state_of, sent[1], key)
+    if not parsed_state or parsed_state[0] != memberlist.STATE:
         return None
-    return tried(memberlist.listed_nodes, sent[1], key) or {}, tried(gossip.state_of, found[2])
+    return read_or_none(memberlist.listed_nodes, sent[1], key) or {}, read_or_none(gossip.state_of, parsed_state[2])
 
 
 def in_window(events, state):
@@ -42,11 +42,11 @@ def in_window(events, state):
     return {event for event in events if event.time + state.slots >= state.clock}
 
 
-def brings(answer, own):
+def has_news(answer, own_state):
     """Whether a state can change a node that has the other one: by an event, or by a clock."""
     if answer is None:
         return False
-    return own is None or not answer.events <= own.events or answer.clock > own.clock or answer.query_clock > own.query_clock
+    return own_state is None or not answer.events <= own_state.events or answer.clock > own_state.clock or answer.query_clock > own_state.query_clock
 
 
 class Callers:
@@ -56,20 +56,23 @@ class Callers:
         self.names, self.downs = names, downs
         self.nodes = sorted(set(names.values()))
         self.found, self.possible, self.records = {}, {}, {name: [] for name in self.nodes}
-        self.parts = {one: (part_of(one, one.caller, key), part_of(one, one.listener, key)) for one in capture.connections}
-        self.starts = {name: [down.end for down in downs.of(name) if down.end is not None] for name in self.nodes}
-        for one, (asked, _) in self.parts.items():
-            self.by_what_it_says(one, asked)
-        self.at, self.dialling = {}, {one.caller[0] for one in self.parts}
+        self.parts = {
+            connection: (state_part(connection, connection.caller, key), state_part(connection, connection.listener, key))
+            for connection in capture.connections
+        }
+        self.starts = {name: [down.end for down in downs.spans_of(name) if down.end is not None] for name in self.nodes}
+        for connection, (caller_part, _) in self.parts.items():
+            self.find_by_names(connection, caller_part)
+        self.at, self.dialling = {}, {connection.caller[0] for connection in self.parts}
         for (host, _), name in names.items():
             self.at.setdefault(host, set()).add(name)
-        self.evidence(capture, key)
-        while any([self.by_elimination(one) for one in self.parts if one not in self.found]):
+        self.collect_evidence(capture, key)
+        while any([self.find_by_elimination(connection) for connection in self.parts if connection not in self.found]):
             continue
 
-    def by_what_it_says(self, connection, asked):
+    def find_by_names(self, connection, caller_part):
         """Finds a caller that --node names by its port, or that lists itself alone."""
-        names = [*(asked[0] if asked else ())]
+        names = [*(caller_part[0] if caller_part else ())]
         if connection.caller in self.names:
             self.found[connection] = self.names[connection.caller]
         elif len(names) == 1 and names[0] in self.records:
@@ -79,36 +82,38 @@ class Callers:
     def candidates(self, host):
         """The nodes that can dial from an address, and whether its own node alone does, as far as the capture shows."""
         own = self.at.get(host, set())
-        said = {name for one, name in self.found.items() if one.caller[0] == host}
+        found_names = {name for connection, name in self.found.items() if connection.caller[0] == host}
         # a node whose address nobody dials from can dial from another one's
         others = {name for other, names in self.at.items() if other not in self.dialling for name in names}
-        is_lone = len(own) == 1 and said <= own and not ipaddress.ip_address(host).is_loopback
-        return own, own | said | others, is_lone
+        is_lone = len(own) == 1 and found_names <= own and not ipaddress.ip_address(host).is_loopback
+        return own, own | found_names | others, is_lone
 
-    def evidence(self, capture, key):
+    def collect_evidence(self, capture, key):
         """Records what nodes are known to have had: the events that they sent by UDP, and the states of those that are known."""
         for time, sender, _, payload in capture.datagrams:
             if sender in self.names:
-                for message in tried(lambda data: list(memberlist.messages_of(data, key)), payload) or []:
-                    event = tried(gossip.event_of, message[1:]) if message[:1] == bytes([memberlist.USER]) else None
+                for message in read_or_none(lambda data: list(memberlist.messages_of(data, key)), payload) or []:
+                    event = read_or_none(gossip.event_of, message[1:]) if message[:1] == bytes([memberlist.USER]) else None
                     if event:
                         self.records[self.names[sender]].append(Record(time, {event}, event.time + 1, False, 0))
-        for one, (asked, answered) in self.parts.items():
-            self.note(self.names.get(one.listener), one, answered)
-            self.note(self.found.get(one), one, asked)
+        for connection, (caller_part, listener_part) in self.parts.items():
+            self.add_record(self.names.get(connection.listener), connection, listener_part)
+            self.add_record(self.found.get(connection), connection, caller_part)
 
-    def note(self, name, connection, part):
+    def add_record(self, name, connection, part):
+        """Records which events and clock a node had when it sent this state."""
         if name in self.records and part and part[1]:
             state = part[1]
             self.records[name].append(Record(connection.began, state.events, state.clock, True, state.slots))
 
     def is_one_life(self, name, first, second):
+        """Whether a node was not started between two moments."""
         return not any(min(first, second) < start <= max(first, second) for start in self.starts[name])
 
     def is_listed(self, name, connection):
         """Whether the caller's state lists a node as running. If the node itself answered, it has to answer with the same state."""
-        (listed, state), answered = self.parts[connection]
-        if name == self.names.get(connection.listener) and (answered is None or state != answered[1]):
+        (listed, state), listener_part = self.parts[connection]
+        if name == self.names.get(connection.listener) and (listener_part is None or state != listener_part[1]):
             return False
         return listed.get(name) is True
 
@@ -125,13 +130,13 @@ class Callers:
                 return False
         return True
 
-    def by_elimination(self, connection):
+    def find_by_elimination(self, connection):
         """Finds the caller if one candidate alone is left, and returns whether it is found."""
         own, possible, is_lone = self.candidates(connection.caller[0])
-        asked = self.parts[connection][0]
-        if is_lone and (asked is None or all(self.is_listed(name, connection) for name in own)):
+        caller_part = self.parts[connection][0]
+        if is_lone and (caller_part is None or all(self.is_listed(name, connection) for name in own)):
             possible = own
-        elif asked is not None:
+        elif caller_part is not None:
             possible = {
                 name
                 for name in possible
@@ -142,14 +147,14 @@ class Callers:
         self.possible[connection] = sorted(possible)
         if len(possible) == 1:
             self.found[connection] = self.possible[connection][0]
-            self.note(self.found[connection], connection, asked)
+            self.add_record(self.found[connection], connection, caller_part)
         return len(possible) == 1
 
-    def of(self, connection):
+    def caller_of(self, connection):
         """The node that called, or None."""
         return self.found.get(connection)
 
-    def lacks(self, connection):
+    def caller_lacks_news(self, connection):
         """Whether the caller's state lacks something that the answer to it has."""
-        asked, answered = self.parts[connection]
-        return bool(answered) and brings(answered[1], asked and asked[1])
+        caller_part, listener_part = self.parts[connection]
+        return bool(listener_part) and has_news(listener_part[1], caller_part and caller_part[1])

@@ -20,34 +20,34 @@ Event = collections.namedtuple("Event", "time name payload")
 State = collections.namedtuple("State", "events clock query_clock slots")
 
 
-def whole(number):
-    return number if isinstance(number, int) else 0
+def integer_or_zero(value):
+    return value if isinstance(value, int) else 0
 
 
-def raw(text):
-    return text if isinstance(text, bytes) else b""
+def bytes_or_empty(value):
+    return value if isinstance(value, bytes) else b""
 
 
-def items(found):
-    return found if isinstance(found, list) else []
+def list_or_empty(value):
+    return value if isinstance(value, list) else []
 
 
 def event_of(message):
     """The user event of a message, or None."""
     if message[:1] != bytes([EVENT]):
         return None
-    found = memberlist.map_at(message, 1)[0]
-    return Event(whole(found.get(b"LTime")), raw(found.get(b"Name")), raw(found.get(b"Payload")))
+    fields = memberlist.map_at(message, 1)[0]
+    return Event(integer_or_zero(fields.get(b"LTime")), bytes_or_empty(fields.get(b"Name")), bytes_or_empty(fields.get(b"Payload")))
 
 
 def state_of(content):
     """What a whole state says of events, or None if these bytes are no push/pull."""
     if content[:1] != bytes([PUSH_PULL]):
         return None
-    found, events = memberlist.map_at(content, 1)[0], set()
-    slots = [slot for slot in items(found.get(b"Events")) if slot is None or isinstance(slot, dict)]
+    fields, events = memberlist.map_at(content, 1)[0], set()
+    slots = [slot for slot in list_or_empty(fields.get(b"Events")) if slot is None or isinstance(slot, dict)]
     for slot in filter(None, slots):
-        for event in items(slot.get(b"Events")):
+        for event in list_or_empty(slot.get(b"Events")):
             if isinstance(event, dict):
-                events.add(Event(whole(slot.get(b"LTime")), raw(event.get(b"Name")), raw(event.get(b"Payload"))))
-    return State(frozenset(events), whole(found.get(b"EventLTime")), whole(found.get(b"QueryLTime")), len(slots))
+                events.add(Event(integer_or_zero(slot.get(b"LTime")), bytes_or_empty(event.get(b"Name")), bytes_or_empty(event.get(b"Payload"))))
+    return State(frozenset(events), integer_or_zero(fields.get(b"EventLTime")), integer_or_zero(fields.get(b"QueryLTime")), len(slots))

@@ -8,7 +8,7 @@ import subprocess
 
 from gossip import Event
 from moments import PARTS, SECOND
-from story import counted, quoted
+from story import count_of, quoted
 
 TOP = os.path.dirname(os.path.dirname(os.path.dirname(os.path.abspath(__file__))))
 
@@ -33,6 +33,9 @@ BEGINS = "Its agents begin with nothing; begin the capture earlier"
 DATE = re.compile(r"\d{4}-")
 TIME_OF_DAY = re.compile(r"\d\d:")
 
+# The first words of lines that hand out no event. (What begins, `begun`, was handed out.)
+SKIPPED = (b"fired", b"query", b"restarted", b"ended")
+
 # What `examples/serf_log_handler.sh` writes for these bytes.
 ESCAPES = ((b"%", b"%25"), (b" ", b"%20"), (b"\r", b"%0D"), (b"\n", b"%0A"))
 
@@ -41,7 +44,7 @@ class LogError(Exception):
     """A log that can't be read, or the program that runs the schedule."""
 
 
-def word(text):
+def log_word(text):
     """A text as a word of a log."""
     text = text.removesuffix(b"\n")
     for byte, escape in ESCAPES:
@@ -49,11 +52,13 @@ def word(text):
     return {b"": b"-", b"-": b"%2D"}.get(text, text)
 
 
-def as_logged(event):
-    return Event(event.time, word(event.name), word(event.payload))
+def logged_event(event):
+    """An event with its texts as words of a log."""
+    return Event(event.time, log_word(event.name), log_word(event.payload))
 
 
-def shown(event):
+def event_text(event):
+    """An event as a sentence names it."""
     name, payload = (quoted(text.decode("utf-8", "replace")) for text in event[1:])
     return f'{event.time} "{name}" "{payload}"'
 
@@ -77,9 +82,9 @@ def lines_of(path, data, clock):
         except ValueError as why:
             bad.append(f"{path}: line {number} of the log has an impossible date: {why}")
             continue
-        if not words or words[0].startswith(b"#") or words[0] in (b"fired", b"query", b"restarted"):
+        if not words or words[0].startswith(b"#") or words[0] in SKIPPED:
             continue
-        if words[0] != b"event" or len(words) != 5 or not words[2].isdigit():
+        if words[0] not in (b"event", b"begun") or len(words) != 5 or not words[2].isdigit():
             bad.append(f"{path}: line {number} is no line of a handlers' log, such as `event NODE TIME NAME PAYLOAD`")
             continue
         node = words[1].decode("utf-8", "replace")
@@ -107,19 +112,20 @@ class Logs:
 
 def program():
     """Where `serf-replay` is: on PATH, in this clone, or in this archive of a release."""
-    found = [shutil.which("serf-replay"), os.path.join(TOP, "serf-replay"), os.path.join(TOP, "bin", "serf-replay")]
-    for path in filter(None, found):
+    paths = [shutil.which("serf-replay"), os.path.join(TOP, "serf-replay"), os.path.join(TOP, "bin", "serf-replay")]
+    for path in filter(None, paths):
         if os.path.exists(path):
             return path
     raise LogError("--log runs the schedule by serf-replay, which is not on PATH: put it there")
 
 
-def ran(words, text):
-    done = subprocess.run([program(), *words], input=text, capture_output=True)
-    if done.returncode:
-        said = done.stderr.decode("utf-8", "replace").strip()
-        raise LogError(f"--log runs the schedule, and `serf-replay {' '.join(words)}` ended with status {done.returncode}: {said}")
-    return done.stdout
+def run_program(arguments, text):
+    """Runs serf-replay on a text, and returns what it prints."""
+    result = subprocess.run([program(), *arguments], input=text, capture_output=True)
+    if result.returncode:
+        errors = result.stderr.decode("utf-8", "replace").strip()
+        raise LogError(f"--log runs the schedule, and `serf-replay {' '.join(arguments)}` ended with status {result.returncode}: {errors}")
+    return result.stdout
 
 
 def bytes_of(text):
@@ -128,22 +134,22 @@ def bytes_of(text):
 
 def handed_out(lines, nodes):
     """The events that a schedule's run hands out. `nodes` are those of its agents, in their order."""
-    trace = ran(["replay", "--stream"], ran(["write"], "".join(f"{line}\n" for line in lines).encode()))
+    trace = run_program(["replay", "--stream"], run_program(["write"], "".join(f"{line}\n" for line in lines).encode()))
     for words in (line.split(b" ") for line in trace.splitlines()):
         if words[1] == b"event":
-            yield Delivery(nodes[int(words[2])], as_logged(Event(int(words[3]), bytes_of(words[4]), bytes_of(words[5]))), words[6] == b"1")
+            yield Delivery(nodes[int(words[2])], logged_event(Event(int(words[3]), bytes_of(words[4]), bytes_of(words[5]))), words[6] == b"1")
 
 
-def events_of(counts):
+def count_and_names(counts):
     """How many events there are, and the first of them by their times."""
-    named = [shown(event) + (f" ({count} times)" if count > 1 else "") for event, count in sorted(counts.items())]
-    more = f" and {len(named) - MAX_NAMED} more" if len(named) > MAX_NAMED else ""
-    return counted(sum(counts.values()), "event"), ", ".join(named[:MAX_NAMED]) + more
+    event_texts = [event_text(event) + (f" ({count} times)" if count > 1 else "") for event, count in sorted(counts.items())]
+    rest = f" and {len(event_texts) - MAX_NAMED} more" if len(event_texts) > MAX_NAMED else ""
+    return count_of(sum(counts.values()), "event"), ", ".join(event_texts[:MAX_NAMED]) + rest
 
 
 def is_coalesced(event, logged):
     """Whether Serf may have left an event out: it has handed out a later one of this name."""
-    return any(one.name == event.name and one.time > event.time for one in logged)
+    return any(other.name == event.name and other.time > event.time for other in logged)
 
 
 def is_due(line, clock, carried):
@@ -159,29 +165,29 @@ def contradictions(logs, handed, carried, names):
     A line counts from the capture's first packet on. The schedule has to hand its event out if it is dated up to the last packet. `carried`
     has each node with the events of its packets: another one of the first seconds may have arrived before the capture.
     """
-    clock, carried = logs.clock, {(node, as_logged(event)) for node, event in carried}
+    clock, carried = logs.clock, {(node, logged_event(event)) for node, event in carried}
     first = clock.began // SECOND * SECOND
     for node in sorted(logs.nodes):
         if node not in names:
             yield f'the logs have a node "{quoted(node)}", which the capture doesn\'t have'
             continue
-        own = [line for line in logs.lines if line.node == node]
-        since = [line for line in own if line.date is None or line.date >= first]
-        before = {line.event for line in own} - {line.event for line in since}
-        logged = collections.Counter(line.event for line in since)
-        due = collections.Counter(line.event for line in since if is_due(line, clock, carried))
-        of_node = [one for one in handed if one.node == node]
-        out = collections.Counter(one.event for one in of_node)
-        more = due - out
-        if more:
-            number, named = events_of(more)
+        node_lines = [line for line in logs.lines if line.node == node]
+        lines_since_start = [line for line in node_lines if line.date is None or line.date >= first]
+        before = {line.event for line in node_lines} - {line.event for line in lines_since_start}
+        logged = collections.Counter(line.event for line in lines_since_start)
+        due = collections.Counter(line.event for line in lines_since_start if is_due(line, clock, carried))
+        node_deliveries = [one for one in handed if one.node == node]
+        handed_out_counts = collections.Counter(one.event for one in node_deliveries)
+        unexpected = due - handed_out_counts
+        if unexpected:
+            number, named = count_and_names(unexpected)
             yield f"{quoted(node)}'s log has {number} that this schedule doesn't hand out: {named}. {STARTED.format(quoted(node))}"
-        held = collections.Counter(one.event for one in of_node if not (one.coalesces and is_coalesced(one.event, logged)))
-        less = held - logged
-        earlier = collections.Counter({event: count for event, count in less.items() if event in before})
-        if less - earlier:
-            number, named = events_of(less - earlier)
+        certain_counts = collections.Counter(one.event for one in node_deliveries if not (one.coalesces and is_coalesced(one.event, logged)))
+        missing = certain_counts - logged
+        earlier = collections.Counter({event: count for event, count in missing.items() if event in before})
+        if missing - earlier:
+            number, named = count_and_names(missing - earlier)
             yield f"this schedule hands out {number} that {quoted(node)}'s log doesn't have: {named}. {IGNORES.format(quoted(node))}"
         if earlier:
-            number, named = events_of(earlier)
+            number, named = count_and_names(earlier)
             yield f"this schedule hands out {number} that {quoted(node)} ran before the capture: {named}. {BEGINS}"

@@ -18,14 +18,16 @@ class FrameError(Exception):
     """Bytes that are no frame."""
 
 
-def part(data, at, length):
+def slice_at(data, at, length):
+    """Bytes of a packet. It is an error if the packet has fewer."""
     if length < 0 or at + length > len(data):
         raise FrameError("it ends too early")
     return data[at : at + length]
 
 
-def number(data, at, width):
-    return int.from_bytes(part(data, at, width), "big")
+def number_at(data, at, width):
+    """An unsigned integer of this many bytes, the highest first."""
+    return int.from_bytes(slice_at(data, at, width), "big")
 
 
 # Of MessagePack, the first byte of a value with a length, and how many bytes the length has.
@@ -40,7 +42,7 @@ def value_at(data, at, depth=0):
     """A MessagePack value, and the offset of its end."""
     if depth > MAX_DEPTH:
         raise FrameError("a value is too deep")
-    first = number(data, at, 1)
+    first = number_at(data, at, 1)
     at += 1
     if first < 0x80 or first >= 0xE0:
         return first if first < 0x80 else first - 0x100, at
@@ -48,18 +50,18 @@ def value_at(data, at, depth=0):
         return WHOLE[first], at
     if first in NUMBERS:
         width = NUMBERS[first]
-        return int.from_bytes(part(data, at, width), "big", signed=first >= 0xD0), at + width
+        return int.from_bytes(slice_at(data, at, width), "big", signed=first >= 0xD0), at + width
     if 0xA0 <= first < 0xC0 or first in RAW:
         width = RAW.get(first, 0)
-        length = number(data, at, width) if width else first & 0x1F
-        return part(data, at + width, length), at + width + length
+        length = number_at(data, at, width) if width else first & 0x1F
+        return slice_at(data, at + width, length), at + width + length
     if 0x90 <= first < 0xA0 or first in LISTS:
         width = LISTS.get(first, 0)
-        count = number(data, at, width) if width else first & 0x0F
+        count = number_at(data, at, width) if width else first & 0x0F
         return items_at(data, at + width, count, depth)
     if first < 0x90 or first in MAPS:
         width = MAPS.get(first, 0)
-        count = number(data, at, width) if width else first & 0x0F
+        count = number_at(data, at, width) if width else first & 0x0F
         items, at = items_at(data, at + width, 2 * count, depth)
         keys = [key if isinstance(key, bytes) else b"" for key in items[::2]]
         return dict(zip(keys, items[1::2])), at
@@ -67,6 +69,7 @@ def value_at(data, at, depth=0):
 
 
 def items_at(data, at, count, depth):
+    """This many values, one after another, and the offset of their end."""
     items = []
     for _ in range(count):
         item, at = value_at(data, at, depth + 1)
@@ -75,27 +78,28 @@ def items_at(data, at, count, depth):
 
 
 def map_at(data, at):
-    found, at = value_at(data, at)
-    if not isinstance(found, dict):
+    """A MessagePack map, and the offset of its end."""
+    value, at = value_at(data, at)
+    if not isinstance(value, dict):
         raise FrameError("a map is missing")
-    return found, at
+    return value, at
 
 
-def unpacked(data):
+def decompress_lzw(data):
     """The bytes that LZW packed, the lowest bit first, in codes of 9 to 12 bits."""
     clear, end, max_codes = 256, 257, 1 << 12
-    out, table, last = bytearray(), [bytes([b]) for b in range(256)] + [b"", b""], None
-    width, bits, held = 9, 0, 0
+    output, table, last = bytearray(), [bytes([b]) for b in range(256)] + [b"", b""], None
+    width, bit_count, bit_buffer = 9, 0, 0
     for byte in data:
-        held |= byte << bits
-        bits += 8
-        if bits < width:
+        bit_buffer |= byte << bit_count
+        bit_count += 8
+        if bit_count < width:
             continue
-        code = held & ((1 << width) - 1)
-        held >>= width
-        bits -= width
+        code = bit_buffer & ((1 << width) - 1)
+        bit_buffer >>= width
+        bit_count -= width
         if code == end:
-            return bytes(out)
+            return bytes(output)
         if code == clear:
             table, last, width = table[:258], None, 9
             continue
@@ -105,8 +109,8 @@ def unpacked(data):
             text = last + last[:1]
         else:
             raise FrameError("a code of LZW has no meaning yet")
-        out += text
-        if len(out) > MAX_BYTES:
+        output += text
+        if len(output) > MAX_BYTES:
             raise FrameError("it unpacks to too much")
         if last is not None and len(table) < max_codes:
             table.append(last + text[:1])
@@ -116,7 +120,7 @@ def unpacked(data):
     raise FrameError("LZW has no end")
 
 
-def opened(data, key, extra):
+def decrypt(data, key, extra):
     """The text that AES-GCM encrypted: it has a version, a nonce of 12 bytes, the text and its tag."""
     if key is None:
         raise FrameError("it is encrypted, and no --key is given")
@@ -126,7 +130,7 @@ def opened(data, key, extra):
     except ImportError:
         raise FrameError("it is encrypted, and Python has no package `cryptography`") from None
     try:
-        text = AESGCM(key).decrypt(part(data, 1, 12), data[13:], extra)
+        text = AESGCM(key).decrypt(slice_at(data, 1, 12), data[13:], extra)
     except (InvalidTag, ValueError):
         raise FrameError("the key doesn't decrypt it") from None
     if data[0] == 0 and text:
@@ -134,36 +138,36 @@ def opened(data, key, extra):
     return text
 
 
-def unlabelled(data):
+def split_label(data):
     """A packet without the label of its cluster, and this label."""
     if data[:1] == bytes([LABEL]):
-        length = number(data, 1, 1)
-        return data[2 + length :], part(data, 2, length)
+        length = number_at(data, 1, 1)
+        return data[2 + length :], slice_at(data, 2, length)
     return data, b""
 
 
 def messages_of(payload, key, depth=0):
     """memberlist's messages in a UDP packet, without their frames."""
     if depth == 0:
-        payload, label = unlabelled(payload)
+        payload, label = split_label(payload)
         if key is not None:
-            payload = opened(payload, key, label)
+            payload = decrypt(payload, key, label)
     if depth > MAX_DEPTH:
         raise FrameError("frames are too deep")
-    kind = number(payload, 0, 1)
+    kind = number_at(payload, 0, 1)
     if kind == CHECKSUM:
-        if zlib.crc32(payload[5:]) != number(payload, 1, 4):
+        if zlib.crc32(payload[5:]) != number_at(payload, 1, 4):
             raise FrameError("the checksum differs")
         yield from messages_of(payload[5:], key, depth + 1)
     elif kind == COMPRESSED:
         packed, _ = map_at(payload, 1)
-        yield from messages_of(unpacked(packed.get(b"Buf") or b""), key, depth + 1)
+        yield from messages_of(decompress_lzw(packed.get(b"Buf") or b""), key, depth + 1)
     elif kind == COMPOUND:
-        count, at = number(payload, 1, 1), 2
-        lengths = [number(payload, at + 2 * n, 2) for n in range(count)]
+        count, at = number_at(payload, 1, 1), 2
+        lengths = [number_at(payload, at + 2 * n, 2) for n in range(count)]
         at += 2 * count
         for length in lengths:
-            yield from messages_of(part(payload, at, length), key, depth + 1)
+            yield from messages_of(slice_at(payload, at, length), key, depth + 1)
             at += length
     else:
         yield payload
@@ -171,13 +175,13 @@ def messages_of(payload, key, depth=0):
 
 def stream_of(payload, key):
     """What one side of a connection sent, without its frames."""
-    payload, label = unlabelled(payload)
+    payload, label = split_label(payload)
     if payload[:1] == bytes([ENCRYPTED]):
-        length = number(payload, 1, 4)
-        payload = opened(part(payload, 5, length), key, payload[:5] + label)
+        length = number_at(payload, 1, 4)
+        payload = decrypt(slice_at(payload, 5, length), key, payload[:5] + label)
     if payload[:1] == bytes([COMPRESSED]):
         packed, _ = map_at(payload, 1)
-        payload = unpacked(packed.get(b"Buf") or b"")
+        payload = decompress_lzw(packed.get(b"Buf") or b"")
     return payload
 
 
@@ -196,10 +200,10 @@ def state_of(payload, key):
     payload = stream_of(payload, key)
     if payload[:1] == bytes([STATE]):
         header, _, at = nodes_of_state(payload)
-        return STATE, header.get(b"Join") is True, part(payload, at, header.get(b"UserStateLen") or 0)
+        return STATE, header.get(b"Join") is True, slice_at(payload, at, header.get(b"UserStateLen") or 0)
     if payload[:1] == bytes([USER]):
         header, at = map_at(payload, 1)
-        return USER, False, part(payload, at, header.get(b"UserMsgLen") or 0)
+        return USER, False, slice_at(payload, at, header.get(b"UserMsgLen") or 0)
     return None
 
 

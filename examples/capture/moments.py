@@ -69,16 +69,16 @@ class Clock:
     def since(self, text):
         """A moment in microseconds since the capture's first packet."""
         if ":" not in text:
-            at = round(float(text) * 1e6)
+            moment = round(float(text) * 1e6)
         else:
             try:
-                at = self.of_day(text) - self.began
+                moment = self.of_day(text) - self.began
             except ValueError as why:
                 raise MomentError(f"{text} is no time of day: {why}") from None
-            at = 0 if -precision_of(text) < at < 0 else at
-        if not 0 <= at <= self.length:
+            moment = 0 if -precision_of(text) < moment < 0 else moment
+        if not 0 <= moment <= self.length:
             raise MomentError(f"{text} is outside of the capture, {self.range()}{self.hint(text)}")
-        return at
+        return moment
 
     def hint(self, text):
         """What to do about a time of day outside of the capture: in which zone it would be inside."""
@@ -90,15 +90,15 @@ class Clock:
             at = self.of_day(text + offset) - self.began
             if -precision_of(text) < at <= self.length:
                 fitting.append(offset)
-        said = f". A time of day is taken as one of {self.zone_text}; if it is one of another zone, say so by --zone"
-        return f"{said}: with --zone={fitting[0]} it is inside" if len(fitting) == 1 else f"{said}, such as --zone=+02:00"
+        advice = f". A time of day is taken as one of {self.zone_text}; if it is one of another zone, say so by --zone"
+        return f"{advice}: with --zone={fitting[0]} it is inside" if len(fitting) == 1 else f"{advice}, such as --zone=+02:00"
 
     def span(self, text):
         """The two moments of FROM-TO, and how much later each can have been. A moment that is left out is None."""
-        found = SPAN.fullmatch(text)
-        if not found or text == "-":
+        match = SPAN.fullmatch(text)
+        if not match or text == "-":
             raise MomentError(f"{text!r} is no span FROM-TO, such as 12.5-15, 12.5- or 14:02:31-14:02:34")
-        begin, end = (None if part is None else self.since(part) for part in found.groups())
+        begin, end = (None if part is None else self.since(part) for part in match.groups())
         if begin is not None and end is not None and end < begin:
-            raise MomentError(f"it ends at {found[2]}, before it begins at {found[1]}")
-        return begin, end, *(precision_of(part) if part else 0 for part in found.groups())
+            raise MomentError(f"it ends at {match[2]}, before it begins at {match[1]}")
+        return begin, end, *(precision_of(part) if part else 0 for part in match.groups())

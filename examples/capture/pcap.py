@@ -34,9 +34,9 @@ def frames_of(data):
         raise CaptureError(f"the capture is of a kind of link that is not known here: {link}")
     frames, at = [], 24
     while at + 16 <= len(data):
-        seconds, parts, kept, _ = struct.unpack_from(order + "4I", data, at)
-        frames.append((seconds * 1_000_000 + parts // unit, data[at + 16 : at + 16 + kept]))
-        at += 16 + kept
+        seconds, fraction, captured_length, _ = struct.unpack_from(order + "4I", data, at)
+        frames.append((seconds * 1_000_000 + fraction // unit, data[at + 16 : at + 16 + captured_length]))
+        at += 16 + captured_length
     return link, frames
 
 
@@ -67,21 +67,22 @@ class Side:
         self.first, self.parts = None, {}
 
     def add(self, time, sequence, flags, payload):
+        """Adds a segment. A SYN begins the sequence numbers."""
         if flags & SYN:
             self.first = sequence + 1
         if payload:
             self.parts.setdefault(sequence, (time, payload))
 
-    def whole(self):
+    def bytes_sent(self):
         """The time of the last part and all bytes up to the first gap; None if the capture lacks the beginning."""
         if self.first is None:
             return None
         sent, time, at = b"", None, 0
-        for place, (when, payload) in sorted(((n - self.first) & 0xFFFFFFFF, part) for n, part in self.parts.items()):
-            if place > at:
+        for start, (when, payload) in sorted(((n - self.first) & 0xFFFFFFFF, part) for n, part in self.parts.items()):
+            if start > at:
                 break
-            if place + len(payload) > at:
-                sent, time, at = sent + payload[at - place :], when, place + len(payload)
+            if start + len(payload) > at:
+                sent, time, at = sent + payload[at - start :], when, start + len(payload)
         return (time, sent) if sent else None
 
 
@@ -95,26 +96,27 @@ class Connection:
     def is_used(self):
         return any(side.parts for side in self.sides.values())
 
-    def called_by(self, caller, listener):
+    def set_caller(self, caller, listener):
         self.caller, self.listener = caller, listener
 
     def sent_by(self, end):
         """The time and the bytes of what this end sent; None if that is nothing, or the capture lacks its beginning."""
-        return self.sides[end].whole()
+        return self.sides[end].bytes_sent()
 
 
 def connection_of(connections, time, sender, receiver, flags):
     """The connection to which a segment belongs. Two ends have a new one after each SYN, unless that is a SYN sent again."""
-    of_ends = connections.setdefault(frozenset((sender, receiver)), [])
+    connections_of_ends = connections.setdefault(frozenset((sender, receiver)), [])
     calls, answers = flags & SYN and not flags & ACK, flags & SYN and flags & ACK
-    if not of_ends or (calls and of_ends[-1].is_used()) or (answers and of_ends[-1].sides[sender].parts):
-        of_ends.append(Connection((sender, receiver), time))
+    if not connections_of_ends or (calls and connections_of_ends[-1].is_used()) or (answers and connections_of_ends[-1].sides[sender].parts):
+        connections_of_ends.append(Connection((sender, receiver), time))
     if calls or answers:
-        of_ends[-1].called_by(*((sender, receiver) if calls else (receiver, sender)))
-    return of_ends[-1]
+        connections_of_ends[-1].set_caller(*((sender, receiver) if calls else (receiver, sender)))
+    return connections_of_ends[-1]
 
 
-def counted(notes, why):
+def count_note(notes, why):
+    """Counts one more thing that was left out for this reason."""
     notes[why] = notes.get(why, 0) + 1
 
 
@@ -126,11 +128,11 @@ def read(data):
     length = max([max(time - began, 0) for time, _ in frames], default=0)
     addresses, datagrams, connections, notes = set(), [], {}, {}
     for time, frame in frames:
-        found = network_packet(link, frame)
-        if found is None:
-            counted(notes, "frames without a whole IP packet")
+        parsed_packet = network_packet(link, frame)
+        if parsed_packet is None:
+            count_note(notes, "frames without a whole IP packet")
             continue
-        hosts, protocol, segment = found
+        hosts, protocol, segment = parsed_packet
         if protocol not in (TCP, UDP) or len(segment) < 8:
             continue
         addresses.update(hosts)
@@ -142,11 +144,11 @@ def read(data):
             sequence, offset, flags = struct.unpack_from(">I4x2B", segment, 4)
             connection = connection_of(connections, since, sender, receiver, flags)
             connection.sides[sender].add(since, sequence, flags, segment[(offset >> 4) * 4 :])
-    known = []
+    known_connections = []
     for connection in (one for of_ends in connections.values() for one in of_ends):
         for side in connection.sides.values():
             if side.parts and side.first is None:
-                counted(notes, "sides of connections without their beginning")
+                count_note(notes, "sides of connections without their beginning")
         if connection.caller is not None:
-            known.append(connection)
-    return Capture(began, length, addresses, datagrams, known, notes)
+            known_connections.append(connection)
+    return Capture(began, length, addresses, datagrams, known_connections, notes)

@@ -46,7 +46,7 @@ class Picture:
                 raise PictureError
         return lanes
 
-    def moved(self, line):
+    def with_sender_lane(self, line):
         """A line, with what is outside in its sender's lane. A cross is left out, and so is an arrow from a node to itself."""
         arrow = self.ARROW.match(line)
         found = arrow or self.PLACE.match(line)
@@ -61,6 +61,6 @@ class Picture:
 
     def with_senders(self):
         """The picture, with the name `outside` only if something is there still."""
-        lines = [self.moved(line) for line in self.lines]
+        lines = [self.with_sender_lane(line) for line in self.lines]
         is_empty = not any(self.PLACE.match(line) for line in lines)
         return "".join(line for line in lines if not (is_empty and line.startswith(self.OUTSIDE)))

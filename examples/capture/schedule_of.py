@@ -36,7 +36,7 @@ import pcap
 import picture
 import snapshots
 import story
-from story import listed, quoted
+from story import name_list, quoted
 
 
 class OptionError(Exception):
@@ -75,10 +75,10 @@ def named_addresses(words, capture):
     return names
 
 
-def known(option, name, nodes):
+def checked_node(option, name, nodes):
     """Refuses a node that the capture doesn't have."""
     if name not in nodes:
-        raise OptionError(f'{option}: the capture has no node "{quoted(name)}"; its nodes are {listed(sorted(nodes))}')
+        raise OptionError(f'{option}: the capture has no node "{quoted(name)}"; its nodes are {name_list(sorted(nodes))}')
     return name
 
 
@@ -89,7 +89,7 @@ def downs_of(words, nodes, clock):
         name, equals, span = word.rpartition("=")
         if not equals:
             raise OptionError(f"--down {word}: this is not NAME=FROM-TO")
-        known(f"--down {word}", name, nodes)
+        checked_node(f"--down {word}", name, nodes)
         try:
             downs.append(story.Down(name, *clock.span(span)))
         except moments.MomentError as why:
@@ -108,7 +108,7 @@ def kept_files(words, nodes, downs, rejoining):
         name, equals, path = word.partition("=")
         if not equals:
             raise OptionError(f"--kept {word}: this is not NAME=FILE")
-        known(f"--kept {word}", name, nodes)
+        checked_node(f"--kept {word}", name, nodes)
         if name in kept:
             raise OptionError(f'--kept {word}: "{quoted(name)}" has a --kept already; it is for the last start alone')
         if not any(down.node == name and down.end is not None for down in downs):
@@ -120,7 +120,7 @@ def kept_files(words, nodes, downs, rejoining):
         except snapshots.SnapshotError as why:
             raise OptionError(f"--kept {word}: {path}: {why}") from None
     for name in rejoining:
-        if known(f"--rejoin {name}", name, nodes) not in kept:
+        if checked_node(f"--rejoin {name}", name, nodes) not in kept:
             raise OptionError(f"--rejoin {name}: it is about the snapshot of a start: name this one by --kept {name}=FILE")
     return kept
 
@@ -133,18 +133,18 @@ def logs_of(words, nodes, clock):
         if os.path.exists(word) or not equals:
             name, path = None, word
         else:
-            known(f"--log {word}", name, nodes)
+            checked_node(f"--log {word}", name, nodes)
         logs.add(name, path)
     return logs
 
 
-def sending_times(capture, names, found):
+def sending_times(capture, names, caller_of):
     """The moments at which each node sent a packet."""
     times = {}
     for time, sender, _, _ in capture.datagrams:
         times.setdefault(names.get(sender), []).append(time)
     for connection in capture.connections:
-        times.setdefault(found(connection), []).append(connection.began)
+        times.setdefault(caller_of(connection), []).append(connection.began)
         answer = connection.sent_by(connection.listener)
         times.setdefault(names.get(connection.listener), []).extend([answer[0]] if answer else [])
     return times
@@ -153,34 +153,35 @@ def sending_times(capture, names, found):
 def story_of(capture, names, key, downs, kept, ignoring):
     """The story of a capture."""
     down_at = story.Downs(downs, sending_times(capture, names, lambda connection: None))
-    called = callers.Callers(capture, names, key, down_at)
-    result = story.Story(names, key, story.Downs(downs, sending_times(capture, names, called.of)), kept, ignoring)
-    payloads = [(time, result.packet, (time, *rest)) for time, *rest in capture.datagrams]
+    all_callers = callers.Callers(capture, names, key, down_at)
+    result = story.Story(names, key, story.Downs(downs, sending_times(capture, names, all_callers.caller_of)), kept, ignoring)
+    payloads = [(time, result.add_packet, (time, *rest)) for time, *rest in capture.datagrams]
     for connection in capture.connections:
         for end in (connection.caller, connection.listener):
             time, payload = connection.sent_by(end) or (None, None)
             if payload:
-                payloads.append((time, result.side, (time, connection, end == connection.listener, payload, called)))
-    for _, read, words in sorted(payloads, key=lambda one: one[0]):
+                payloads.append((time, result.add_side, (time, connection, end == connection.listener, payload, all_callers)))
+    for _, add_payload, arguments in sorted(payloads, key=lambda payload_entry: payload_entry[0]):
         try:
-            read(*words)
+            add_payload(*arguments)
         except memberlist.FrameError as why:
             result.unreadable += 1
             result.leave_out(f"packets that could not be read: {why}")
     return result
 
 
-def write(result, remarks, is_picture):
+def write(capture_story, remarks, is_picture):
     """Writes the schedule, or the picture of standard input, with the remarks in front."""
     if is_picture:
-        drawn = picture.Picture(sys.stdin.buffer.read().decode(errors="replace"), result).with_senders()
-        sys.stdout.write("".join(f"<!-- {remark.replace('--', '- -')} -->\n" for remark in remarks) + drawn)
+        picture_text = picture.Picture(sys.stdin.buffer.read().decode(errors="replace"), capture_story).with_senders()
+        sys.stdout.write("".join(f"<!-- {remark.replace('--', '- -')} -->\n" for remark in remarks) + picture_text)
         return
-    for line in [*(f"# {remark}" for remark in remarks), *result.lines()]:
+    for line in [*(f"# {remark}" for remark in remarks), *capture_story.lines()]:
         print(line)
 
 
 def zone(text):
+    """A time zone, and its text."""
     return moments.zone_of(text), text
 
 
@@ -191,43 +192,43 @@ def parser():
         " 2026-11-30T14:02:31Z. Leave FROM out if the node didn't run when the capture began, and TO if it wasn't started again.",
     )
     result.add_argument("capture", help="a file of the form pcap")
-    add = lambda *words, **more: result.add_argument(*words, action="append", default=[], **more)
+    add = lambda *names, **settings: result.add_argument(*names, action="append", default=[], **settings)
     add("--node", metavar="NAME=ADDRESS[:PORT]", help="the node of an address that the capture doesn't name; the port is 7946 if left out")
     add("--down", metavar="NAME=FROM-TO", help="the node didn't run from FROM to TO, and was started at TO")
     add("--kept", metavar="NAME=FILE", help="the snapshot on which the node was started after its last --down")
     add("--rejoin", metavar="NAME", help="the node was started with -rejoin, so a `leave` in its snapshot changes nothing")
     add("--ignore", metavar="NAME", help="the node joins without -replay, so its joins ignore old events")
     add("--log", metavar="[NODE=]FILE", help="a log of handlers that the schedule is checked against; it needs serf-replay on PATH")
-    of_zone = "the zone of times of day that have none: an offset such as +02:00, a name such as Europe/Berlin, or local; UTC if left out"
-    result.add_argument("--zone", type=zone, default=zone("UTC"), help=of_zone)
-    of_key = "the key of `serf agent -encrypt`; it needs Python's package cryptography"
-    result.add_argument("--key", type=base64.b64decode, metavar="BASE64", help=of_key)
-    of_senders = "read a picture of the schedule, and write it with each arrow from its sender's lane"
-    result.add_argument("--senders", action="store_true", help=of_senders)
+    zone_help = "the zone of times of day that have none: an offset such as +02:00, a name such as Europe/Berlin, or local; UTC if left out"
+    result.add_argument("--zone", type=zone, default=zone("UTC"), help=zone_help)
+    key_help = "the key of `serf agent -encrypt`; it needs Python's package cryptography"
+    result.add_argument("--key", type=base64.b64decode, metavar="BASE64", help=key_help)
+    senders_help = "read a picture of the schedule, and write it with each arrow from its sender's lane"
+    result.add_argument("--senders", action="store_true", help=senders_help)
     return result
 
 
 def main(words):
-    asked = parser().parse_args(words)
+    options = parser().parse_args(words)
     try:
-        with open(asked.capture, "rb") as file:
+        with open(options.capture, "rb") as file:
             capture = pcap.read(file.read())
-        names = names_of(capture, asked.key)
-        names.update(named_addresses(asked.node, capture))
-        nodes, clock = set(names.values()), moments.Clock(capture.began, capture.length, *asked.zone)
-        downs = downs_of(asked.down, nodes, clock)
-        kept = kept_files(asked.kept, nodes, downs, asked.rejoin)
-        ignoring = {known(f"--ignore {name}", name, nodes) for name in asked.ignore}
-        logs = logs_of(asked.log, nodes, clock)
-        result = story_of(capture, names, asked.key, downs, kept, ignoring)
-        remarks = list(result.remarks())
-        if asked.log:
-            lives = [agent.node for agent in result.agents()]
-            handed = list(handlers.handed_out(result.lines(), lives))
-            remarks += [f"contradiction: {one}" for one in handlers.contradictions(logs, handed, result.carried, nodes)]
-        write(result, remarks, asked.senders)
+        names = names_of(capture, options.key)
+        names.update(named_addresses(options.node, capture))
+        nodes, clock = set(names.values()), moments.Clock(capture.began, capture.length, *options.zone)
+        downs = downs_of(options.down, nodes, clock)
+        kept = kept_files(options.kept, nodes, downs, options.rejoin)
+        ignoring = {checked_node(f"--ignore {name}", name, nodes) for name in options.ignore}
+        logs = logs_of(options.log, nodes, clock)
+        capture_story = story_of(capture, names, options.key, downs, kept, ignoring)
+        remarks = list(capture_story.remarks())
+        if options.log:
+            lives = [agent.node for agent in capture_story.agents()]
+            handed = list(handlers.handed_out(capture_story.lines(), lives))
+            remarks += [f"contradiction: {sentence}" for sentence in handlers.contradictions(logs, handed, capture_story.carried, nodes)]
+        write(capture_story, remarks, options.senders)
     except (pcap.CaptureError, OSError) as why:
-        print(f"{getattr(why, 'filename', None) or asked.capture}: {getattr(why, 'strerror', None) or why}", file=sys.stderr)
+        print(f"{getattr(why, 'filename', None) or options.capture}: {getattr(why, 'strerror', None) or why}", file=sys.stderr)
         return 2
     except (OptionError, handlers.LogError) as why:
         print(why, file=sys.stderr)
@@ -238,9 +239,9 @@ def main(words):
     for remark in [*remarks, *logs.bad]:
         print(remark, file=sys.stderr)
     print(f"{len(capture.datagrams)} packets and {len(capture.connections)} connections were read", file=sys.stderr)
-    for why, count in [*capture.notes.items(), *result.left_out.items()]:
+    for why, count in [*capture.notes.items(), *capture_story.left_out.items()]:
         print(f"left out: {count} {why}", file=sys.stderr)
-    return 1 if remarks or logs.bad or result.unreadable else 0
+    return 1 if remarks or logs.bad or capture_story.unreadable else 0
 
 
 if __name__ == "__main__":

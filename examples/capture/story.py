@@ -22,13 +22,13 @@ def quoted(name):
     return "".join(chr(b) if 32 <= b < 127 and b not in b'"\\' else f"\\x{b:02x}" for b in name.encode())
 
 
-def listed(names, word="and"):
+def name_list(names, word="and"):
     """Names as a sentence lists them."""
     names = [f'"{quoted(name)}"' for name in names]
     return f" {word} ".join(filter(None, [", ".join(names[:-1]), *names[-1:]])) or "none"
 
 
-def counted(number, thing):
+def count_of(number, thing):
     return f"{number} {thing}" if number == 1 else f"{number} {thing}s"
 
 
@@ -42,21 +42,22 @@ class Downs:
         for down in downs:
             begin, end, times = down.begin, down.end, sorted(sent.get(down.node, ()))
             if begin is not None:
-                late = begin + down.begin_slack if end is None else min(begin + down.begin_slack, end)
-                begin = max([begin, *(at + 1 for at in times if begin <= at < late)])
+                last_possible_begin = begin + down.begin_slack if end is None else min(begin + down.begin_slack, end)
+                begin = max([begin, *(at + 1 for at in times if begin <= at < last_possible_begin)])
             if end is not None:
                 end = next((at for at in times if end <= at < end + down.end_slack), end)
             self.downs.append(down._replace(begin=begin, end=end))
 
-    def of(self, node):
+    def spans_of(self, node):
+        """Returns the spans in which a node was down."""
         return [down for down in self.downs if down.node == node]
 
     def is_down(self, node, time):
-        return any((down.begin or 0) <= time and (down.end is None or time < down.end) for down in self.of(node))
+        return any((down.begin or 0) <= time and (down.end is None or time < down.end) for down in self.spans_of(node))
 
     def last_start(self, node):
         """When a node was started for the last time; None if it never was."""
-        return max((down.end for down in self.of(node) if down.end is not None), default=None)
+        return max((down.end for down in self.spans_of(node) if down.end is not None), default=None)
 
 
 class Story:
@@ -68,15 +69,16 @@ class Story:
         self.unreadable, self.sent_while_down, self.unknown_callers = 0, {}, []
         for down in downs.downs:
             if down.end is not None:
-                self.start(down)
+                self.add_start(down)
 
-    def start(self, down):
+    def add_start(self, down):
         """The line of a start: on what the agent's own disk keeps, or on the file that --kept names of the last start."""
         is_again = down.node in self.kept and down.end == self.downs.last_start(down.node)
         tail = f" tail {self.kept[down.node][0].hex() or '-'}" if is_again else ""
-        self.step(down.end, down.node, "restart", f"{tail} # at {down.end}us", None)
+        self.add_step(down.end, down.node, "restart", f"{tail} # at {down.end}us", None)
 
-    def step(self, time, node, verb, rest, sender):
+    def add_step(self, time, node, verb, rest, sender):
+        """Adds a step of the agent that the node has at this time."""
         agent = self.agent_at(node, time)
         self.steps.append(Step(time, agent, verb, rest, sender))
         self.acting.add(agent)
@@ -92,67 +94,70 @@ class Story:
     def leave_out(self, why):
         self.left_out[why] = self.left_out.get(why, 0) + 1
 
-    def runs(self, node, time):
+    def is_running(self, node, time):
         """Whether a node runs that gets a packet; that it doesn't is counted."""
         if self.downs.is_down(node, time):
             self.leave_out("packets to a node that was down")
             return False
         return True
 
-    def says(self, node, time):
+    def note_sender(self, node, time):
         """Notes that a node sends something: one that is down can't."""
         if node is not None and self.downs.is_down(node, time):
             self.sent_while_down.setdefault(node, []).append(time)
 
-    def give(self, time, address, message, sender):
+    def add_delivery(self, time, address, message, sender):
+        """Adds that the node at an address got a message."""
         node = self.names.get(address)
         if node is None:
             return self.leave_out("messages to an address without a name: name it by --node")
-        if self.runs(node, time):
-            self.step(time, node, "give", f" {message.hex()} at {time}us", self.sender_at(sender, time))
+        if self.is_running(node, time):
+            self.add_step(time, node, "give", f" {message.hex()} at {time}us", self.sender_at(sender, time))
             self.has.add((self.agent_at(node, time), message))
 
-    def sent(self, time, address, message):
+    def add_sent(self, time, address, message):
         """A node that passes on what it never got has fired it."""
         node = self.names.get(address)
         if node is not None and message[0] in gossip.PASSED_ON and (self.agent_at(node, time), message) not in self.has:
-            self.give(time, address, message, address)
+            self.add_delivery(time, address, message, address)
 
-    def user_message(self, time, sender, receiver, message):
+    def add_user_message(self, time, sender, receiver, message):
+        """Adds that one end sent a message of Serf, and that the other got it."""
         if not message or message[0] not in gossip.READ:
             return self.leave_out("messages of Serf's other parts")
         event = gossip.event_of(message)
         self.carried |= {(self.names.get(end), event) for end in (sender, receiver) if event}
-        self.sent(time, sender, message)
-        self.give(time, receiver, message, sender)
+        self.add_sent(time, sender, message)
+        self.add_delivery(time, receiver, message, sender)
 
-    def packet(self, time, sender, receiver, payload):
-        self.says(self.names.get(sender), time)
+    def add_packet(self, time, sender, receiver, payload):
+        """Adds the messages of a UDP packet."""
+        self.note_sender(self.names.get(sender), time)
         for message in memberlist.messages_of(payload, self.key):
             if message[:1] == bytes([memberlist.USER]):
-                self.user_message(time, sender, receiver, message[1:])
+                self.add_user_message(time, sender, receiver, message[1:])
 
-    def side(self, time, connection, is_answer, payload, callers):
+    def add_side(self, time, connection, is_answer, payload, callers):
         """What one side of a connection sent: a whole state, which the other side merges, or a user message."""
-        caller, listener = callers.of(connection), self.names.get(connection.listener)
-        self.says(listener if is_answer else caller, time)
-        read = memberlist.state_of(payload, self.key)
-        if read is None:
+        caller, listener = callers.caller_of(connection), self.names.get(connection.listener)
+        self.note_sender(listener if is_answer else caller, time)
+        parsed_state = memberlist.state_of(payload, self.key)
+        if parsed_state is None:
             return
-        kind, is_join, content = read
+        kind, is_join, content = parsed_state
         ends = [self.end_of(connection, caller), connection.listener]
         sender, receiver = reversed(ends) if is_answer else ends
         if kind == memberlist.USER:
-            return self.user_message(time, sender, receiver, content)
+            return self.add_user_message(time, sender, receiver, content)
         state, name = gossip.state_of(content) if content else None, self.names.get(receiver)
         self.carried |= {(name, event) for event in state.events} if state else set()
         if name is None and is_answer and content:
             return self.nobody_merges(time, connection, callers)
         if name is None or not content:
             return self.leave_out("states to an address without a name: name it by --node")
-        if self.runs(name, time):
+        if self.is_running(name, time):
             rest = f" {content.hex()} {'join' if is_join else 'sync'} # at {time}us"
-            self.step(time, name, "take", rest, self.sender_at(sender, time))
+            self.add_step(time, name, "take", rest, self.sender_at(sender, time))
 
     def end_of(self, connection, caller):
         """The caller as an address at which it listens, or the end from which it called."""
@@ -160,12 +165,13 @@ class Story:
 
     def nobody_merges(self, time, connection, callers):
         """An answer to a caller that isn't known. It is counted if it can change nothing, and reported otherwise."""
-        if callers.lacks(connection):
+        if callers.caller_lacks_news(connection):
             self.unknown_callers.append((time, connection, callers.possible.get(connection, [])))
         else:
             self.leave_out("states that had nothing new for their caller, which is not known")
 
-    def ordered(self):
+    def ordered_steps(self):
+        """The steps in the order of time."""
         return sorted(self.steps, key=lambda step: step.time)
 
     def agents(self):
@@ -178,7 +184,8 @@ class Story:
         name = f"{agent.node} again"
         return name + " and again" if name in self.names.values() else name
 
-    def line(self, step):
+    def step_line(self, step):
+        """A step as a line of the schedule, with its sender as a comment."""
         head = f'{step.verb} "{quoted(self.agent_name(step.agent))}"{step.rest}'
         if step.sender is None:
             return head
@@ -192,11 +199,11 @@ class Story:
             keeps = agent.node in self.kept and self.kept[agent.node][1]
             settings = " keep-events" * keeps + " ignore" * (agent.node in self.ignoring)
             yield f'agent "{quoted(self.agent_name(agent))}"{settings}'
-        yield from map(self.line, self.ordered())
+        yield from map(self.step_line, self.ordered_steps())
 
     def actions(self):
         """The step of each action of the schedule, and whether it only injects the packet: a packet is two actions."""
-        for step in self.ordered():
+        for step in self.ordered_steps():
             if step.sender is not None:
                 yield step, True
             yield step, False
@@ -206,11 +213,11 @@ class Story:
         for node, times in sorted(self.sent_while_down.items()):
             span = " and ".join(f"{at / 1e6:.6f} s" for at in sorted({min(times), max(times)}))
             span = f"at {span}" if len(times) < 3 else f"between {span}"
-            said = "and --down says that it didn't run then: correct its FROM or its TO"
-            yield f"contradiction: {quoted(node)} sent {counted(len(times), 'packet')} {span}, {said}"
+            advice = "and --down says that it didn't run then: correct its FROM or its TO"
+            yield f"contradiction: {quoted(node)} sent {count_of(len(times), 'packet')} {span}, {advice}"
         for time, connection, possible in self.unknown_callers:
             end = "{}:{}".format(*connection.caller)
-            which = f"can be {listed(possible, 'or')}" if possible else "is not known"
+            which = f"can be {name_list(possible, 'or')}" if possible else "is not known"
             yield (
                 f"left out: at {time / 1e6:.6f} s a node merged a state that had something new for it. It called from {end}, and {which}:"
                 f" say which node it is by --node NAME={end}"

@@ -18,43 +18,28 @@ def visible(text):
     return "".join(c if c.isprintable() else f"\\u{{{ord(c):x}}}" for c in text)
 
 
-def text_of(found, key):
+def text_of(item, key):
     """The bytes under a key: as text if they are text, and otherwise in hex."""
-    spelled = found.get(f"{key}_hex", "")
+    spelled = item.get(f"{key}_hex", "")
     try:
-        return visible(found[key] if key in found else bytes.fromhex(spelled).decode("utf-8"))
+        return visible(item[key] if key in item else bytes.fromhex(spelled).decode("utf-8"))
     except UnicodeDecodeError:
         return "0x" + spelled
 
 
-def called(found):
+def label_of(item):
     """What an event or a query is called: its name, its payload and its time."""
-    words = [word for word in (text_of(found, "name"), text_of(found, "payload")) if word]
+    words = [word for word in (text_of(item, "name"), text_of(item, "payload")) if word]
     if not words:
-        words = ["query" + (f" #{found['id']}" if "id" in found else "")] if is_query(found) else ["(no name)"]
-    return " ".join(words) + f" @{found['time']}"
+        words = ["query" + (f" #{item['id']}" if "id" in item else "")] if is_query(item) else ["(no name)"]
+    return " ".join(words) + f" @{item['time']}"
 
 
-def is_query(found):
-    return "query" in (found["kind"], found.get("of"))
+def is_query(item):
+    return "query" in (item["kind"], item.get("of"))
 
 
-def key_of(found):
+def key_of(item):
     """What was handed out: the same for the same event or query, on any node."""
-    kind = "query" if is_query(found) else "event"
-    return kind, found["time"], found.get("id"), found.get("name_hex"), found.get("payload_hex")
-
-
-class Places:
-    """The words for lines of logs. If there are several logs, a line has the name of its log."""
-
-    def __init__(self, found):
-        names = dict.fromkeys(one["log"] for one in found if "log" in one)
-        short = {name: name.rpartition("/")[2] for name in names}
-        self.names = short if len(set(short.values())) == len(short) else {name: name for name in names}
-
-    def place(self, found, prefix=""):
-        """A line, with its date if it has one."""
-        date, line = found.get(f"{prefix}date"), found[f"{prefix}line"]
-        where = f"{self.names[found[f'{prefix}log']]}:{line}" if len(self.names) > 1 else f"line {line}"
-        return where + (f" ({visible(date)})" if date else "")
+    kind = "query" if is_query(item) else "event"
+    return kind, item["time"], item.get("id"), item.get("name_hex"), item.get("payload_hex")

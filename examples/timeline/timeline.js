@@ -687,7 +687,7 @@
       else for (const step of ["chips", "filter", "report", "arrive"]) this[step]();
     }
 
-    // Selects what the address names, behind `#`, or what ran twice first.
+    // Selects what the address names after `#`, or else what ran twice.
     arrive() {
       const id = location.hash.slice(1);
       for (const pane of this.panes) {

@@ -249,14 +249,14 @@ def main():
     kinds.add_argument("--encrypted", action="store_true")
     parser.add_argument("--library")
     parser.add_argument("--agent")
-    asked = parser.parse_args()
-    missing = kit.needed()
+    options = parser.parse_args()
+    missing = kit.missing_command()
     if missing:
         sys.exit(f"it needs {missing}")
     other = []
     with tempfile.TemporaryDirectory(prefix="calls-", ignore_cleanup_errors=True) as folder:
-        program = asked.agent or kit.build(folder, asked.library, [])
-        for key in [None] * (not asked.encrypted) + [base64.b64encode(os.urandom(32)).decode()] * (not asked.plain):
+        program = options.agent or kit.build(folder, options.library, [])
+        for key in [None] * (not options.encrypted) + [base64.b64encode(os.urandom(32)).decode()] * (not options.plain):
             own = os.path.join(folder, "encrypted" if key else "plain")
             os.mkdir(own)
             run = Run(own, program, key)

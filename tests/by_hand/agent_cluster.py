@@ -99,7 +99,7 @@ def cluster(folder, programs, asked):
     return agents
 
 
-def ran(agent):
+def handler_runs(agent):
     """The events and queries that its handler ran, each as a line, in order."""
     try:
         with open(agent.events, encoding="utf-8") as file:
@@ -171,17 +171,17 @@ class Torment:
             put_faults(self.agents, argparse.Namespace(lose=0, repeat=0))
 
 
-def judged(agents, folder, judge):
+def run_judge(agents, folder, judge):
     """What the judge reports about all handlers except stock's: its status and its text."""
     log = os.path.join(folder, "proved.log")
     words = [judge, "judge", log]
     with open(log, "w", encoding="utf-8") as file:
         for agent in agents:
             if agent.is_proved:
-                file.write("".join(line + "\n" for line in ran(agent)))
+                file.write("".join(line + "\n" for line in handler_runs(agent)))
                 words += ["--kept", f"{agent.name}={agent.snapshot}"]
-    done = subprocess.run(words, stdout=subprocess.PIPE, stderr=subprocess.STDOUT, text=True)
-    return done.returncode, done.stdout
+    result = subprocess.run(words, stdout=subprocess.PIPE, stderr=subprocess.STDOUT, text=True)
+    return result.returncode, result.stdout
 
 
 def text_of(path):
@@ -228,11 +228,11 @@ def why(agent, payloads):
 
 def lonely(agents, torment):
     """The events that only their firer ever had, as far as handlers and files show."""
-    had = {agent.name: {line.split()[-1] for line in ran(agent) if line.startswith("event ")} | noted_by(agent) for agent in agents}
+    had = {agent.name: {line.split()[-1] for line in handler_runs(agent) if line.startswith("event ")} | noted_by(agent) for agent in agents}
     return {text for text, firer in torment.taken.items() if not any(text in had[name] for name in had if name != firer)}
 
 
-def told(agents, torment):
+def print_results(agents, torment):
     """Prints what happened to each kind: how many repeats each has."""
     repeats, alone = collections.Counter(), lonely(agents, torment)
     print(f"{len(alone)} events that only their firer ever had")
@@ -240,7 +240,7 @@ def told(agents, torment):
         of_kind = [agent for agent in agents if agent.kind == kind]
         once, queries, apart, causes = 0, 0, 0, collections.Counter()
         for agent in of_kind:
-            counts = collections.Counter(ran(agent))
+            counts = collections.Counter(handler_runs(agent))
             had = {line.split()[-1] for line in counts if line.startswith("event ")}
             missed = torment.taken.keys() - had
             once += len(torment.taken) - len(missed)
@@ -268,7 +268,7 @@ def programs_of(folder, asked):
 
 def main():
     asked = arguments()
-    missing = kit.needed()
+    missing = kit.missing_command()
     if missing:
         sys.exit(f"it needs {missing}")
     folder = tempfile.mkdtemp(prefix="agents-")
@@ -287,8 +287,8 @@ def main():
         for agent in agents:
             agent.end()
     print(f"{torment.fired} events, {len(torment.taken)} of them accepted, {torment.asked_of} queries, {torment.cuts} cuts, all nodes {'see' if whole else 'do not see'} one another at the end")
-    repeats = told(agents, torment)
-    status, text = judged(agents, folder, asked.judge)
+    repeats = print_results(agents, torment)
+    status, text = run_judge(agents, folder, asked.judge)
     print(text, end="")
     if asked.keep:
         print(f"the files are in {folder}")

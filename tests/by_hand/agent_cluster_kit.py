@@ -67,7 +67,7 @@ class Agent:
 
     def start(self, *more):
         self.launch(*more)
-        until(lambda: self.process.poll() is not None or said(["serf", "members", f"-rpc-addr={self.rpc}", *self.token()])[0] == 0, 60)
+        until(lambda: self.process.poll() is not None or run_serf(["serf", "members", f"-rpc-addr={self.rpc}", *self.token()])[0] == 0, 60)
         return self
 
     def token(self):
@@ -75,7 +75,7 @@ class Agent:
 
     def serf(self, command, *words):
         """What the stock command line prints for this agent: its status and its text."""
-        return said(["serf", command, f"-rpc-addr={self.rpc}", *self.token(), *words])
+        return run_serf(["serf", command, f"-rpc-addr={self.rpc}", *self.token(), *words])
 
     def status(self, name):
         """How this agent sees another one, or an empty text."""
@@ -110,12 +110,12 @@ class Agent:
             return "it had to be killed"
 
 
-def said(words, wait=30):
+def run_serf(words, wait=30):
     try:
-        ran = subprocess.run(words, stdin=subprocess.DEVNULL, stdout=subprocess.PIPE, stderr=subprocess.STDOUT, text=True, errors="replace", timeout=wait)
+        result = subprocess.run(words, stdin=subprocess.DEVNULL, stdout=subprocess.PIPE, stderr=subprocess.STDOUT, text=True, errors="replace", timeout=wait)
     except subprocess.TimeoutExpired as late:
         return 124, (late.stdout or b"").decode("utf-8", "replace") if isinstance(late.stdout, bytes) else late.stdout or ""
-    return ran.returncode, ran.stdout
+    return result.returncode, result.stdout
 
 
 def until(holds, wait=15):
@@ -128,7 +128,7 @@ def until(holds, wait=15):
     return bool(holds())
 
 
-def needed(commands=("go", "serf")):
+def missing_command(commands=("go", "serf")):
     """What is missing of what these tests need, or None."""
     missing = [name for name in commands if shutil.which(name) is None]
     missing += [f"{name}'s sources" for name in ("memberlist", "serf") if not os.path.isdir(os.path.join(GOCODE, "src", "github.com", "hashicorp", name))]

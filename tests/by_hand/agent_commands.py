@@ -179,7 +179,7 @@ class Run:
         self.check("monitor shows earlier and new lines", "agent starting" in text and "Requesting user event send: watched" in text)
         self.check("monitor at an unknown level is refused", x.serf("monitor", "-log-level=loud")[1].find("Unknown log level: LOUD") >= 0)
         for words, says in (([], "Authentication required"), (["-rpc-auth=wrong"], "Invalid authentication token")):
-            status, text = kit.said(["serf", "members", f"-rpc-addr={y.rpc}", *words])
+            status, text = kit.run_serf(["serf", "members", f"-rpc-addr={y.rpc}", *words])
             self.check(f"without the token: {says}", status == 1 and says in text)
         self.says("with the token", y, "members", has=["y "])
 
@@ -366,7 +366,7 @@ class Run:
             ("an RPC address that is taken", ["-bind", "127.0.7.9:7946", "-rpc-addr", self.a.rpc], "address already in use"),
             ("a join of nobody", [*at, "-join", "127.0.7.99"], "-join"), ("a bad handler", [*at, "-event-handler", "foo=bar"], "is not an event"),
         ):
-            status, text = kit.said([*program, *words])
+            status, text = kit.run_serf([*program, *words])
             good = status == 1 and says in text.splitlines()[-1] if text else False
             self.check(f"{what}: {says}", good)
             if not good:
@@ -392,7 +392,7 @@ class Run:
 
 
 def main(words):
-    missing = kit.needed()
+    missing = kit.missing_command()
     if missing:
         sys.exit(f"it needs {missing}")
     folder = tempfile.mkdtemp(prefix="agent-")

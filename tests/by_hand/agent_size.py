@@ -200,18 +200,18 @@ def main():
     parser.add_argument("--together", type=int, default=10)
     parser.add_argument("--library")
     parser.add_argument("--agent")
-    asked = parser.parse_args()
-    missing = kit.needed()
+    options = parser.parse_args()
+    missing = kit.missing_command()
     if missing:
         sys.exit(f"it needs {missing}")
     folder = tempfile.mkdtemp(prefix="agent-size-")
-    program = asked.agent or kit.build(folder, asked.library, [])
+    program = options.agent or kit.build(folder, options.library, [])
     plain = os.path.join(folder, "plain.json")
     with open(plain, "w", encoding="utf-8") as file:
         # (the simulated members read no compressed packets)
         file.write('{"enable_compression": false}')
     try:
-        crowd = Crowd(asked.members) if asked.members else None
+        crowd = Crowd(options.members) if options.members else None
         for which, (kind, words) in enumerate({"stock": ["serf", "agent"], "ours": [program]}.items()):
             def agent(at, net):
                 found = Agent(folder, words, f"{kind}{at}", at, net=net)
@@ -219,9 +219,9 @@ def main():
                 return found
 
             if crowd:
-                among_members(kind, agent(which + 1, "127.0.10"), crowd, asked.events)
-            if asked.nodes:
-                of_many(kind, [agent(at, f"127.0.{11 + which}") for at in range(1, asked.nodes + 1)], asked.together)
+                among_members(kind, agent(which + 1, "127.0.10"), crowd, options.events)
+            if options.nodes:
+                of_many(kind, [agent(at, f"127.0.{11 + which}") for at in range(1, options.nodes + 1)], options.together)
     finally:
         shutil.rmtree(folder)
     return 0

@@ -114,7 +114,7 @@ def joined(agent, peer):
     return taken
 
 
-def shown(what, found, unit):
+def print_row(what, found, unit):
     for kind, all_of_it in found.items():
         print(f"{what}, {kind}: {statistics.median(all_of_it):.4g} {unit} ({min(all_of_it):.4g} to {max(all_of_it):.4g}, {len(all_of_it)} times)")
 
@@ -129,14 +129,14 @@ def main():
     parser.add_argument("--on", help="the folder, and so the disk, of the snapshots")
     parser.add_argument("--library")
     parser.add_argument("--agent")
-    asked = parser.parse_args()
-    missing = kit.needed()
+    options = parser.parse_args()
+    missing = kit.missing_command()
     if missing:
         sys.exit(f"it needs {missing}")
-    folder = tempfile.mkdtemp(prefix="agent-speed-", dir=asked.on)
-    program = asked.agent or kit.build(folder, asked.library, [])
-    kinds = {"stock": ["serf", "agent"], "ours": [program]} | ({"ours with a record": [program]} if asked.record else {})
-    kinds |= {UNTRACKED: [program], TRACKED: [program]} if asked.keep_events else {}
+    folder = tempfile.mkdtemp(prefix="agent-speed-", dir=options.on)
+    program = options.agent or kit.build(folder, options.library, [])
+    kinds = {"stock": ["serf", "agent"], "ours": [program]} | ({"ours with a record": [program]} if options.record else {})
+    kinds |= {UNTRACKED: [program], TRACKED: [program]} if options.keep_events else {}
 
     def agent(kind, number):
         found = Agent(folder, kinds[kind], f"{kind.split()[0]}{number}", number, net="127.0.9")
@@ -146,33 +146,33 @@ def main():
     speeds, costs, times = ({kind: [] for kind in kinds} for _ in range(3))
     number = 1
     try:
-        for _ in range(asked.rounds):
+        for _ in range(options.rounds):
             for kind in kinds:
                 number += 1
                 one = agent(kind, number)
                 one.words += ["-log-level", "err"]
                 one.start()
                 try:
-                    rate, count, cost = speed(one, asked.events)
+                    rate, count, cost = speed(one, options.events)
                 finally:
                     one.end()
                 size = os.path.getsize(one.snapshot) / 1024
-                print(f"{kind}: {rate:.0f} events a second, {count} of {asked.events}, {cost:.0f} us of the processor each, {size:.0f} KiB", flush=True)
+                print(f"{kind}: {rate:.0f} events a second, {count} of {options.events}, {cost:.0f} us of the processor each, {size:.0f} KiB", flush=True)
                 speeds[kind].append(rate)
                 costs[kind].append(cost)
         peer = agent("stock", 1).start()
         try:
-            for _ in range(asked.starts):
+            for _ in range(options.starts):
                 for kind in kinds:
                     number += 1
                     times[kind].append(1000 * joined(agent(kind, number), peer))
         finally:
             peer.end()
-        if asked.rounds:
-            shown("accepted", speeds, "events a second")
-            shown("an event", costs, "us of the processor")
-        if asked.starts:
-            shown("from start to joined", times, "ms")
+        if options.rounds:
+            print_row("accepted", speeds, "events a second")
+            print_row("an event", costs, "us of the processor")
+        if options.starts:
+            print_row("from start to joined", times, "ms")
     finally:
         shutil.rmtree(folder)
     return 0

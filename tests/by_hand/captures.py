@@ -100,8 +100,8 @@ class Incident:
     def call(self, name, command, *words):
         """A command of `serf` at an agent, and what it prints; None if it fails."""
         line = ["serf", command, self.rpc(name), *words]
-        done = subprocess.run(line, stdin=subprocess.DEVNULL, capture_output=True, text=True, timeout=CALL)
-        return done.stdout if done.returncode == 0 else None
+        result = subprocess.run(line, stdin=subprocess.DEVNULL, capture_output=True, text=True, timeout=CALL)
+        return result.stdout if result.returncode == 0 else None
 
     def do(self, name, command, *words):
         if self.call(name, command, *words) is None:

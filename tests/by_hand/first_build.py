@@ -18,7 +18,7 @@ EXAMPLE = os.path.join("examples", "deploy_gossiped_twice")
 
 
 def main(words):
-    most = int(words[0]) if words else 900
+    maximum = int(words[0]) if words else 900
     with tempfile.TemporaryDirectory(prefix="first-build-") as root:
         top = os.path.join(root, "clone")
         subprocess.run(["git", "clone", "--quiet", TOP, top], check=True)
@@ -29,10 +29,10 @@ def main(words):
         began = time.monotonic()
         built = subprocess.run(["./prove"], cwd=top).returncode
         took = time.monotonic() - began
-        ran = subprocess.run(["./serf-replay", "replay", EXAMPLE + ".schedule"], cwd=top, capture_output=True)
+        result = subprocess.run(["./serf-replay", "replay", EXAMPLE + ".schedule"], cwd=top, capture_output=True)
         with open(os.path.join(top, EXAMPLE + ".trace"), "rb") as trace:
-            runs = (ran.returncode, ran.stdout, ran.stderr) == (0, trace.read(), b"")
-    results = [("the program is built", built == 0), ("the proved program runs", runs), ("the first call within 120 seconds", first <= 120), (f"within {most} seconds", took <= most)]
+            runs = (result.returncode, result.stdout, result.stderr) == (0, trace.read(), b"")
+    results = [("the program is built", built == 0), ("the proved program runs", runs), ("the first call within 120 seconds", first <= 120), (f"within {maximum} seconds", took <= maximum)]
     for name, holds in results:
         if not holds:
             print(f"FAILED {name}")

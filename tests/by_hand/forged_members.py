@@ -79,12 +79,12 @@ class Siege:
         self.agents.append(new)
         try:
             began = time.monotonic()
-            status, said = new.serf("join", self.agents[0].addr)
+            status, output = new.serf("join", self.agents[0].addr)
             joined = time.monotonic() - began
             seen = until(lambda: self.agents[0].status(new.name) == self.agents[1].status(new.name) == "alive", JOIN)
             took = time.monotonic() - began
             print(f"  {when}: the command `serf join` took {joined:.2f} s, and after {took:.2f} s both agents saw it", flush=True)
-            self.check(f"a new machine joins {when}", status == 0 and seen and took <= JOIN, f"{status}, {said.strip()}, {took:.1f} s, {[agent.status(new.name) for agent in self.agents]}")
+            self.check(f"a new machine joins {when}", status == 0 and seen and took <= JOIN, f"{status}, {output.strip()}, {took:.1f} s, {[agent.status(new.name) for agent in self.agents]}")
         finally:
             # (a member that was killed would draw gossip until it is found dead)
             new.serf("leave")
@@ -143,7 +143,7 @@ class Siege:
 
 def main():
     asked = arguments()
-    missing = kit.needed(("go", "serf", "unshare", "ip"))
+    missing = kit.missing_command(("go", "serf", "unshare", "ip"))
     if missing or os.geteuid():
         sys.exit(f"it needs {missing or 'root'}")
     in_own_network()

@@ -41,7 +41,7 @@ def arguments():
     return parser.parse_args()
 
 
-def ran(program, own, events, more):
+def run_events(program, own, events, more):
     """Events a second by the clock, and events per processor second."""
     before = resource.getrusage(resource.RUSAGE_CHILDREN)
     said = subprocess.run([program, own, str(events)], check=True, stdout=subprocess.PIPE, text=True, env={**os.environ, **more}).stdout
@@ -51,7 +51,7 @@ def ran(program, own, events, more):
 
 def main():
     asked = arguments()
-    missing = kit.needed(["go"])
+    missing = kit.missing_command(["go"])
     if missing:
         sys.exit(f"it needs {missing}")
     fault = None if asked.library else c_library.fault_of_library()
@@ -67,15 +67,15 @@ def main():
             if time.monotonic() > end:
                 break
             for kind in list(KINDS)[:: 1 if number % 2 else -1]:
-                for of_what, one in zip(found.values(), ran(program, own, asked.events, KINDS[kind])):
+                for of_what, one in zip(found.values(), run_events(program, own, asked.events, KINDS[kind])):
                     of_what[kind].append(one)
             print(f"load {os.getloadavg()[0]:.0f}: " + "; ".join(f"{what} {', '.join(f'{kind} {all_of_kind[-1]:,.0f}' for kind, all_of_kind in of_what.items())}" for what, of_what in found.items()), flush=True)
-    good = [told(what, *of_what.values()) >= MIN_RATIO for what, of_what in found.items()]
+    good = [print_comparison(what, *of_what.values()) >= MIN_RATIO for what, of_what in found.items()]
     print("passed" if all(good) else "FAILED")
     return 0 if all(good) else 1
 
 
-def told(what, guarded, plain):
+def print_comparison(what, guarded, plain):
     """Prints events a second with the guard and without: returns the share of the medians."""
     for kind, all_of_kind in zip(KINDS, (guarded, plain)):
         print(f"{what}, {kind}: {statistics.median(all_of_kind):,.0f} events a second, the median of {len(all_of_kind)}; {min(all_of_kind):,.0f} to {max(all_of_kind):,.0f}")

@@ -134,9 +134,9 @@ class Hour:
         new = self.made("newcomer", 3).start()
         try:
             began = time.monotonic()
-            status, said = new.serf("join", self.agent.addr)
+            status, output = new.serf("join", self.agent.addr)
             seen = until(lambda: self.agent.status("newcomer") == "alive", 10)
-            print(f"a new name joins after {time.monotonic() - began:.1f} s: {status}, {said.strip()}", flush=True)
+            print(f"a new name joins after {time.monotonic() - began:.1f} s: {status}, {output.strip()}", flush=True)
             return status == 0 and seen and time.monotonic() - began <= 10
         finally:
             new.end()
@@ -195,7 +195,7 @@ class Hour:
 
 def main():
     asked = arguments()
-    missing = kit.needed(("go", "serf", "unshare", "ip"))
+    missing = kit.missing_command(("go", "serf", "unshare", "ip"))
     if missing or os.geteuid():
         sys.exit(f"it needs {missing or 'root'}")
     in_own_network()

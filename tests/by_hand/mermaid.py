@@ -56,8 +56,8 @@ class Drawn:
 
     def __init__(self, name, schedule, words=(), agents=None):
         self.name = name
-        self.text = ran(["draw", "--as", "mermaid", *words], schedule).decode()
-        self.root = tree.fromstring(ran(["draw", *words], schedule))
+        self.text = run_command(["draw", "--as", "mermaid", *words], schedule).decode()
+        self.root = tree.fromstring(run_command(["draw", *words], schedule))
         heads = [head.text or "" for head in self.root.findall(f"{SVG}text[@class='h']") if head.get("y") == "065"]
         self.lanes = list(zip(range(len(heads)) if agents is None else agents, heads))
 
@@ -85,7 +85,7 @@ class Drawn:
         return {"actors": actors, "messages": messages} if not arrows else f"arrows that end at no action: {arrows}"
 
 
-def ran(words, given=b""):
+def run_command(words, given=b""):
     return subprocess.run([checks.PROGRAM, *words], input=given, capture_output=True, timeout=600, check=True).stdout
 
 
@@ -115,7 +115,7 @@ def examples():
         with open(path, "rb") as file:
             yield Drawn(os.path.relpath(path, TOP), file.read())
     for path in sorted(glob.glob(os.path.join(TOP, "examples", "**", "*.written"), recursive=True)):
-        yield Drawn(os.path.relpath(path, TOP), ran(["write", path]))
+        yield Drawn(os.path.relpath(path, TOP), run_command(["write", path]))
 
 
 def any_bytes():
@@ -142,7 +142,7 @@ def parts():
 def randoms():
     for seed in SEEDS:
         kind = KINDS[seed % len(KINDS)]
-        yield Drawn(f"seed {seed} of {kind}", ran(["random", str(seed), "--kind", kind]))
+        yield Drawn(f"seed {seed} of {kind}", run_command(["random", str(seed), "--kind", kind]))
 
 
 # A text of ours with one error, which Mermaid has to refuse, or to read as something else.

@@ -67,7 +67,7 @@ class Run:
         """Fires an event, and returns its number if it was confirmed."""
         time.sleep(self.random.random() * 0.05)
         payload = f"{number} {self.random.randint(10, 90)}"
-        status = kit.said(["serf", "event", f"-rpc-addr={self.agent.rpc}", "-coalesce=false", "n", payload])[0]
+        status = kit.run_serf(["serf", "event", f"-rpc-addr={self.agent.rpc}", "-coalesce=false", "n", payload])[0]
         return number if status == 0 else None
 
     def life(self, events, kills_handler):
@@ -148,7 +148,7 @@ def main():
     parser.add_argument("--library")
     parser.add_argument("--keep", action="store_true")
     options = parser.parse_args()
-    missing = kit.needed(("serf",) if options.agent else ("go", "serf"))
+    missing = kit.missing_command(("serf",) if options.agent else ("go", "serf"))
     if missing:
         sys.exit(f"not installed: {missing}")
     folder = tempfile.mkdtemp(prefix="once.")

@@ -137,7 +137,7 @@ class Node(Agent):
 
 def event_of(line):
     """The event that a line of a snapshot says was handed out, or None."""
-    return kept.event_of(line) or handlers.event_behind(handlers.OPEN, line)
+    return kept.event_of(line) or handlers.event_after(handlers.OPEN, line)
 
 
 def number_of(event):
@@ -173,7 +173,7 @@ class Torment:
                 time.sleep(0.05)
                 continue
             node, number, milliseconds = found
-            status, _ = kit.said(["serf", "event", f"-rpc-addr={node.rpc}", "-coalesce=false", "n", f"{number} {milliseconds / 1000:.3f}"])
+            status, _ = kit.run_serf(["serf", "event", f"-rpc-addr={node.rpc}", "-coalesce=false", "n", f"{number} {milliseconds / 1000:.3f}"])
             if status == 0:
                 with self.lock:
                     self.confirmed[number] = node.name
@@ -271,7 +271,7 @@ def total(became, name):
     return sum(len(getattr(one, name)) for one in became)
 
 
-def told(torment, is_at_rest):
+def print_results(torment, is_at_rest):
     """Prints what became of the events, and returns what must not be."""
     confirmed = set(torment.confirmed)
     became = {kind: [Became(node, confirmed) for node in torment.nodes if node.kind == kind] for kind in ("ours", "stock")}
@@ -282,10 +282,10 @@ def told(torment, is_at_rest):
         if kind == "ours":
             ended = sum(len(one.cut_off & one.ended) for one in ones)
             print(f"  {total(ones, 'once'):,} ran once, {total(ones, 'cut_off')} were cut off and reported ({ended} of them ended all the same), {total(ones, 'waits')} still wait")
-            print(f"  {total(ones, 'silent')} without a word, {total(ones, 'twice')} began twice, {total(ones, 'never')} never reached the node")
+            print(f"  {total(ones, 'silent')} lost silently, {total(ones, 'twice')} began twice, {total(ones, 'never')} never reached the node")
             print(f"  {waited:,} times an event waited in the file of a node when it was killed")
         else:
-            print(f"  {total(ones, 'once'):,} ran to their ends, {total(ones, 'cut_off_by_kill')} were cut off without a word, {total(ones, 'twice')} began twice")
+            print(f"  {total(ones, 'once'):,} ran to their ends, {total(ones, 'cut_off_by_kill')} were cut off silently, {total(ones, 'twice')} began twice")
             print(f"  {total(ones, 'never'):,} never ran")
     ours = became["ours"]
     for number in sorted({number for one in ours for number in one.never})[:20]:
@@ -322,7 +322,7 @@ def arguments():
 
 def main():
     asked = arguments()
-    missing = kit.needed(("serf",) if asked.agent else ("go", "serf"))
+    missing = kit.missing_command(("serf",) if asked.agent else ("go", "serf"))
     if missing:
         sys.exit(f"not installed: {missing}")
     folder = tempfile.mkdtemp(prefix="once-cluster.")
@@ -352,7 +352,7 @@ def main():
         f"seed {asked.seed}: {torment.kills()} kills, {torment.fired:,} events were fired and {len(torment.confirmed):,} confirmed, "
         f"{backlog:.0f} waited at a kill of a node of ours (median of the nodes), in {time.monotonic() - began:.0f} seconds"
     )
-    wrong = told(torment, is_at_rest)
+    wrong = print_results(torment, is_at_rest)
     failed = {what: found for what, found in wrong.items() if found}
     for what, found in failed.items():
         print(f"FAILED: {len(found)} {what}: {found[:20]}")

@@ -76,9 +76,9 @@ exec "$@"
 RESULT = re.compile(r"^--- (PASS|FAIL): (\w+)", re.M)
 
 
-def ran(words, **more):
-    done = subprocess.run(words, stdin=subprocess.DEVNULL, stdout=subprocess.PIPE, stderr=subprocess.STDOUT, text=True, errors="replace", **more)
-    return done.returncode, done.stdout
+def run_command(words, **more):
+    result = subprocess.run(words, stdin=subprocess.DEVNULL, stdout=subprocess.PIPE, stderr=subprocess.STDOUT, text=True, errors="replace", **more)
+    return result.returncode, result.stdout
 
 
 class Sources:
@@ -93,8 +93,8 @@ class Sources:
 
     def get(self, *words):
         """Runs apt-get, over lists in the folder that also have sources. Returns what went wrong, or None."""
-        status, said = ran(["apt-get", "-qq", *words], env=self.env, cwd=self.of("got"))
-        return said[-1500:] if status else None
+        status, output = run_command(["apt-get", "-qq", *words], env=self.env, cwd=self.of("got"))
+        return output[-1500:] if status else None
 
     def prepare(self):
         for name in ("got", "lists/partial", "sources", "packages", "go/src/github.com/docker"):
@@ -120,9 +120,9 @@ class Sources:
             if fault:
                 return fault
             described = glob.glob(self.of("got", "docker.io_*.dsc"))[0]
-            status, said = ran(["dpkg-source", "--no-check", "-x", described, self.of("docker")])
+            status, output = run_command(["dpkg-source", "--no-check", "-x", described, self.of("docker")])
             if status:
-                return said[-1500:]
+                return output[-1500:]
         for path in glob.glob(self.of("got", "*.deb")):
             subprocess.run(["dpkg-deb", "-x", path, self.of("packages")], check=True)
         consul = self.of("packages", "usr/share/gocode/src/github.com/docker/libkv/store/consul")
@@ -147,17 +147,17 @@ class Sources:
             return fault
         os.makedirs(self.of("goiardi"), exist_ok=True)
         subprocess.run(["tar", "xf", archives[0], "-C", self.of("goiardi")], check=True)
-        _, said = ran(["grep", "-rhoE", "--include=*.go", '"github.com/hashicorp/serf/[^"]+"', self.of("goiardi")])
+        _, said = run_command(["grep", "-rhoE", "--include=*.go", '"github.com/hashicorp/serf/[^"]+"', self.of("goiardi")])
         return sorted(set(said.split()))
 
 
 def results(program, cwd, names=None):
     """The names of the tests that pass and of those that fail, and what the program printed."""
     words = [program, "-test.v", *([f"-test.run=^({'|'.join(names)})$"] if names else [])]
-    status, said = ran(["timeout", str(LIMIT), "unshare", "-n", "sh", "-c", IN_NAMESPACE, "sh", *words], cwd=cwd)
-    found = {name: result for result, name in RESULT.findall(said)}
+    status, output = run_command(["timeout", str(LIMIT), "unshare", "-n", "sh", "-c", IN_NAMESPACE, "sh", *words], cwd=cwd)
+    found = {name: result for result, name in RESULT.findall(output)}
     passed = {name for name, result in found.items() if result == "PASS"}
-    return passed, set(found) - passed, f"status {status}: {said[-1500:]}"
+    return passed, set(found) - passed, f"status {status}: {output[-1500:]}"
 
 
 def passing(program, cwd):
@@ -179,18 +179,18 @@ def try_docker(count, sources, library):
     envs["ours"] = dict(envs["Serf's"])
     envs["Serf's"]["GOPATH"] = os.pathsep.join([*sources.paths(), agent_cluster_kit.GOCODE])
     envs["ours"]["GOPATH"] = os.pathsep.join([sources.of("ours", "go"), *sources.paths(), agent_cluster_kit.GOCODE])
-    for name, least in TESTED.items():
+    for name, minimum in TESTED.items():
         cwd, found = sources.of("go/src/github.com/docker/libnetwork", name), {}
         for kind, env in envs.items():
             program = sources.of(f"{os.path.basename(name)}-{'ours' if kind == 'ours' else 'stock'}")
-            status, said = ran(["go", "test", "-c", "-o", program, f"github.com/docker/libnetwork/{name}"], env=env, cwd=sources.folder)
-            count.check(f"{name} is compiled over {kind}", status == 0, said[-1500:])
+            status, output = run_command(["go", "test", "-c", "-o", program, f"github.com/docker/libnetwork/{name}"], env=env, cwd=sources.folder)
+            count.check(f"{name} is compiled over {kind}", status == 0, output[-1500:])
             if status == 0:
                 found[kind] = passing(program, cwd)
         if len(found) == 2:
-            (stock, failed, said), (ours, not_ours, our_words) = found["Serf's"], found["ours"]
+            (stock, failed, output), (ours, not_ours, our_words) = found["Serf's"], found["ours"]
             print(f"{name}: {len(stock)} tests pass over Serf's package, {len(ours)} over ours; over Serf's {sorted(failed)} fail, over ours {sorted(not_ours)}", flush=True)
-            count.check(f"{name}: enough tests pass over Serf's package", len(stock) >= least, said)
+            count.check(f"{name}: enough tests pass over Serf's package", len(stock) >= minimum, output)
             count.check(f"{name}: the same tests pass over ours", stock <= ours, our_words)
 
 
@@ -208,21 +208,21 @@ def main():
     parser.add_argument("--in", dest="folder", help="a folder that keeps what was downloaded")
     parser.add_argument("--library", default=os.path.dirname(c_library.LIBRARY))
     parser.add_argument("--only", choices=PROGRAMS)
-    asked = parser.parse_args()
+    options = parser.parse_args()
     missing = [name for name in ("go", "apt-get", "dpkg-source", "unshare", "ip") if shutil.which(name) is None]
     if missing or os.geteuid() != 0:
         sys.exit(f"it needs root's rights, and {', '.join(missing) or 'nothing else'}")
     count = checks.Checks()
-    folder = os.path.abspath(asked.folder or tempfile.mkdtemp(prefix="other-programs-"))
+    folder = os.path.abspath(options.folder or tempfile.mkdtemp(prefix="other-programs-"))
     try:
         sources = Sources(folder)
         fault = sources.prepare()
         count.check("apt's lists are there", fault is None, fault)
         for name, attempt in PROGRAMS.items():
-            if fault is None and asked.only in (None, name):
-                attempt(count, sources, os.path.join(os.path.abspath(asked.library), "libserf_agent_c.a"))
+            if fault is None and options.only in (None, name):
+                attempt(count, sources, os.path.join(os.path.abspath(options.library), "libserf_agent_c.a"))
     finally:
-        if asked.folder is None:
+        if options.folder is None:
             shutil.rmtree(folder)
         else:
             shutil.rmtree(os.path.join(folder, "ours"), ignore_errors=True)

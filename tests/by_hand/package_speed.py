@@ -82,31 +82,31 @@ def main():
     parser.add_argument("--library", default=os.path.dirname(c_library.LIBRARY))
     parser.add_argument("--build", metavar="FOLDER", help="only leave the programs in a folder")
     parser.add_argument("--other", metavar="PROGRAM", help="firing-ours of another commit, which takes its turns too")
-    asked = parser.parse_args()
-    missing = kit.needed()
+    options = parser.parse_args()
+    missing = kit.missing_command()
     if missing:
         sys.exit(f"it needs {missing}")
-    if asked.build:
-        os.makedirs(asked.build, exist_ok=True)
-        print(*build(os.path.abspath(asked.build), asked.library).values(), sep="\n")
+    if options.build:
+        os.makedirs(options.build, exist_ok=True)
+        print(*build(os.path.abspath(options.build), options.library).values(), sep="\n")
         return 0
-    folder = tempfile.mkdtemp(prefix="package-speed-", dir=asked.on)
+    folder = tempfile.mkdtemp(prefix="package-speed-", dir=options.on)
     try:
-        programs = build(folder, asked.library)
-        if asked.other:
-            programs["other"] = asked.other
+        programs = build(folder, options.library)
+        if options.other:
+            programs["other"] = options.other
         for callers, on_file, events in RUNS:
-            found = by_turns(programs, asked.rounds, lambda kind, _: fired(programs[kind], folder, callers, on_file, events))
+            found = by_turns(programs, options.rounds, lambda kind, _: fired(programs[kind], folder, callers, on_file, events))
             for kind in programs:
                 speeds, lost, memory = zip(*found[kind])
                 where = "on a snapshot" if on_file else "in memory"
                 print(f"{kind}, {callers} callers {where}: {statistics.median(speeds):.0f} events a second ({min(speeds):.0f} to {max(speeds):.0f}), {max(lost)} of {events} never arrived, {max(memory):.1f} MiB", flush=True)
-        if asked.other:
+        if options.other:
             return 0
-        over = kit.build_serf(tempfile.mkdtemp(dir=folder), asked.library)
-        agents = {"stock": ["serf", "agent"], "cmd/serf over ours": [over, "agent"], "ours": [kit.build(folder, asked.library, [])]}
+        over = kit.build_serf(tempfile.mkdtemp(dir=folder), options.library)
+        agents = {"stock": ["serf", "agent"], "cmd/serf over ours": [over, "agent"], "ours": [kit.build(folder, options.library, [])]}
         for level in LEVELS:
-            found = by_turns(agents, asked.rounds, lambda kind, at: by_rpc(programs, Agent(tempfile.mkdtemp(dir=folder), agents[kind], "node", at, net="127.0.10"), level))
+            found = by_turns(agents, options.rounds, lambda kind, at: by_rpc(programs, Agent(tempfile.mkdtemp(dir=folder), agents[kind], "node", at, net="127.0.10"), level))
             for kind, speeds in found.items():
                 print(f"{kind}, {CONNECTIONS} connections by RPC, log at {level}: {statistics.median(speeds):.0f} events a second ({min(speeds):.0f} to {max(speeds):.0f})", flush=True)
     finally:

@@ -68,8 +68,8 @@ class Incident:
     def call(self, name, command, *words):
         """A command of `serf` at an agent, and what it prints."""
         line = ["serf", command, f"-rpc-addr={ADDRESS[name]}:7373", *words]
-        done = subprocess.run(line, stdin=subprocess.DEVNULL, capture_output=True, text=True, timeout=CALL)
-        return done.stdout if done.returncode == 0 else None
+        result = subprocess.run(line, stdin=subprocess.DEVNULL, capture_output=True, text=True, timeout=CALL)
+        return result.stdout if result.returncode == 0 else None
 
     def told(self, name, command, *words):
         if self.call(name, command, *words) is None:

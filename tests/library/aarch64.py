@@ -62,12 +62,12 @@ def in_c(count, places):
     for name in ("bad_input", "limits", "burst", "keep", "forget"):
         path = embed.compile_c(count, places, name, os.path.join(embed.SOURCES, f"{name}.c"))
         if path:
-            embed.counted(count, name, [path])
+            embed.count_output(count, name, [path])
     wrapped = ["-Wl,--wrap=malloc,--wrap=realloc"]
     for name, more in (("memory", ["-Wl,--wrap=free"]), ("members", []), ("open_events", [])):
         path = embed.compile_c(count, places, name, os.path.join(embed.SOURCES, f"{name}.c"), [*wrapped, *more])
         if path:
-            embed.counted(count, name, [path])
+            embed.count_output(count, name, [path])
     driver = embed.compile_c(count, places, "store_driver", os.path.join(embed.SOURCES, "store_driver.c"))
     if driver:
         embed.stores.try_store(count, "C", places, [driver])
@@ -90,8 +90,8 @@ def in_go(count, places):
     os.symlink(places.library, os.path.join(module, "serfagent", "libserf_agent_c_arm64.a"))
     env = {**os.environ, "GOFLAGS": "-mod=mod -trimpath", "GOPROXY": "off", "GO111MODULE": "on", "GOARCH": "arm64", "CGO_ENABLED": "1", "CC": COMPILER, "TEST_EXEC": " ".join(EMULATED), **c_library.LEAN_GO}
     path = places.of("go_example")
-    status, said = c_library.ran(["go", "build", "-o", path, "./example"], env=env, cwd=module)
-    count.check("the example in Go compiles", status == 0, said[-2000:])
+    status, output = c_library.ran(["go", "build", "-o", path, "./example"], env=env, cwd=module)
+    count.check("the example in Go compiles", status == 0, output[-2000:])
     if status == 0:
         embed.example(count, "Go", places, [*EMULATED, path])
     words = ["go", "test", "-v", "-exec", " ".join(EMULATED), "."]
@@ -102,7 +102,7 @@ def in_go(count, places):
 def crashes(count, places):
     """The host that is killed, with the script of the same name."""
     words = [sys.executable, os.path.join(TOP, "tests", "library", "crashes.py"), "--kills", str(KILLS), "--slower", str(SLOWER), "--library", places.library]
-    embed.counted(count, "crashes.py", words)
+    embed.count_output(count, "crashes.py", words)
 
 
 class Agent:
@@ -146,8 +146,8 @@ def agents(count, places):
     """The agent for aarch64 and the one for x86-64 in one cluster: an event that either fires runs once at both."""
     emulated, own = places.of("agent64"), places.of("agent")
     build = os.path.join(TOP, "agent", "build")
-    status, said = c_library.ran([build, emulated, os.path.dirname(places.library)], env={**os.environ, "GOARCH": "arm64", "CC": COMPILER})
-    count.check("the agent for aarch64 compiles", status == 0, said[-1500:])
+    status, output = c_library.ran([build, emulated, os.path.dirname(places.library)], env={**os.environ, "GOARCH": "arm64", "CC": COMPILER})
+    count.check("the agent for aarch64 compiles", status == 0, output[-1500:])
     status = status or c_library.ran([build, own, os.path.dirname(c_library.LIBRARY)], env={name: value for name, value in os.environ.items() if name != "CC"})[0]
     count.check("the agent for x86-64 compiles", status == 0)
     if status:
@@ -181,13 +181,13 @@ def from_source(count, places, folders):
         shutil.copytree(os.path.join(TOP, "bindings", "source"), places.of("source"), dirs_exist_ok=True)
         shutil.copytree(folder, source)
         library = places.of(f"source_{target}.a")
-        status, said = c_library.ran([places.of("source", "build"), library, target], env={**os.environ, "CLANG": clang})
-        count.check(f"{clang} compiles the text for {target}", status == 0, said[-1500:])
+        status, output = c_library.ran([places.of("source", "build"), library, target], env={**os.environ, "CLANG": clang})
+        count.check(f"{clang} compiles the text for {target}", status == 0, output[-1500:])
         path = places.of(f"example_{target}")
         own = {"aarch64": os.environ["CC"], "x86_64": "cc"}[target]
         words = [own, *c_library.STRICT, "-O2", "-o", path, os.path.join(embed.BINDINGS, "c", "example.c"), c_library.STORE, c_library.HEAP, library]
-        status, said = c_library.ran(words)
-        count.check(f"the example over it compiles for {target}", status == 0, said[-1500:])
+        status, output = c_library.ran(words)
+        count.check(f"the example over it compiles for {target}", status == 0, output[-1500:])
         if status == 0:
             embed.example(count, f"from source for {target}", places, [path])
     refused = c_library.ran([places.of("source", "build"), places.of("none.a"), "x86_64"], env={**os.environ, "CLANG": "no-clang"})
@@ -206,10 +206,10 @@ def parts(places, folders):
 
 
 def main():
-    words = argparse.ArgumentParser(description=__doc__, formatter_class=argparse.RawDescriptionHelpFormatter)
-    words.add_argument("--library")
-    words.add_argument("--over-ci", action="store_true")
-    asked = words.parse_args()
+    parser = argparse.ArgumentParser(description=__doc__, formatter_class=argparse.RawDescriptionHelpFormatter)
+    parser.add_argument("--library")
+    parser.add_argument("--over-ci", action="store_true")
+    options = parser.parse_args()
     total = checks.Checks()
     missing = [name for name in (COMPILER, EMULATOR) if shutil.which(name) is None]
     if missing:
@@ -217,9 +217,9 @@ def main():
         return total.finish()
     with tempfile.TemporaryDirectory(prefix="aarch64-") as folder:
         os.chmod(folder, 0o755)
-        library, folders = asked.library, {}
+        library, folders = options.library, {}
         if library is None:
-            fault = c_library.fault_of_library(asked.over_ci)
+            fault = c_library.fault_of_library(options.over_ci)
             total.check("the library for x86-64 is proved and compiled", fault is None, fault)
             try:
                 folders = {target: targets.made(target) for target in targets.TRIPLES}

@@ -1,5 +1,5 @@
 """The agent for operators (`agent/`): builds and packs it as its page says, formats and vets it, runs its own tests and those of the
-package serf that it uses under Go's race detector, turns what they recorded into a schedule (`examples/schedule_of_records.py`), and
+package serf that it uses under Go's race detector, turns what they recorded into a schedule (`examples/records/schedule_of_records.py`), and
 tries what the pages show of agents (`agent/shown.py`).
 
     tests/library/agent.py [--library FILE] [--over-ci]
@@ -46,28 +46,28 @@ def unbuilt(count, library, folder):
         ("without Go", os.path.join(TOP, "agent", "build"), few, "agent/build: go is not on PATH"),
         ("without the library", alone, os.environ["PATH"], "agent/build: libserf_agent_c.a is not in "),
     ):
-        status, said = c_library.ran([script, os.path.join(folder, "none"), library if path == few else folder], env={**os.environ, "PATH": path})
-        count.check(f"agent/build {what}", status == 3 and said.startswith(says) and said.count("\n") == 1, (status, said))
+        status, output = c_library.ran([script, os.path.join(folder, "none"), library if path == few else folder], env={**os.environ, "PATH": path})
+        count.check(f"agent/build {what}", status == 3 and output.startswith(says) and output.count("\n") == 1, (status, output))
 
 
 def built(count, library, folder):
     """The program, built by the script that README and AGENT.md show, and the package that contains it."""
     program, package = os.path.join(folder, "kitchenrue-agent"), os.path.join(folder, "kitchenrue-agent.deb")
     lean = {"env": {**os.environ, **c_library.LEAN_GO}}
-    status, said = c_library.ran([os.path.join(TOP, "agent", "build"), program, library], **lean)
-    count.check("agent/build", status == 0, said[-2000:])
-    status, said = c_library.ran([program, "-version"])
-    count.check("-version", status == 0 and "kitchenrue-agent" in said.lower(), (status, said))
-    status, said = c_library.ran([program, "-no-such-flag"])
-    count.check("a flag that doesn't exist", status != 0 and "no-such-flag" in said, (status, said))
+    status, output = c_library.ran([os.path.join(TOP, "agent", "build"), program, library], **lean)
+    count.check("agent/build", status == 0, output[-2000:])
+    status, output = c_library.ran([program, "-version"])
+    count.check("-version", status == 0 and "kitchenrue-agent" in output.lower(), (status, output))
+    status, output = c_library.ran([program, "-no-such-flag"])
+    count.check("a flag that doesn't exist", status != 0 and "no-such-flag" in output, (status, output))
     unbuilt(count, library, folder)
     if shutil.which("dpkg-deb") is None:
         print("not run: the Debian package, since dpkg-deb is not on PATH")
         return
-    status, said = c_library.ran([os.path.join(TOP, "agent", "package", "deb"), package, library], **lean)
-    count.check("agent/package/deb", status == 0, said[-2000:])
-    status, said = c_library.ran(["dpkg-deb", "-x", package, os.path.join(folder, "package")])
-    count.check("the package has the program", os.access(os.path.join(folder, "package", "usr", "bin", "kitchenrue-agent"), os.X_OK), (status, said))
+    status, output = c_library.ran([os.path.join(TOP, "agent", "package", "deb"), package, library], **lean)
+    count.check("agent/package/deb", status == 0, output[-2000:])
+    status, output = c_library.ran(["dpkg-deb", "-x", package, os.path.join(folder, "package")])
+    count.check("the package has the program", os.access(os.path.join(folder, "package", "usr", "bin", "kitchenrue-agent"), os.X_OK), (status, output))
     packed.check(count, package, os.path.join(folder, "package"))
     installed(count, package)
 
@@ -103,7 +103,7 @@ def settings_on_page(count):
         count.check(f"AGENT.md has the setting {key or flag}", all(word in text for word in named), named)
 
 
-SCRIPT = os.path.join(TOP, "examples", "schedule_of_records.py")
+SCRIPT = os.path.join(TOP, "examples", "records", "schedule_of_records.py")
 
 
 def loaded():
@@ -123,9 +123,9 @@ def scheduled(count, what, *words):
     """The schedule of records, and its trace as lines."""
     status, written = c_library.ran([sys.executable, SCRIPT, *words])
     count.check(f"{what}: a schedule is written", status == 0, written)
-    status, schedule, said = checks.ran(["write"], written.encode())
+    status, schedule, said = checks.run_program(["write"], written.encode())
     count.check(f"{what}: it can be read", status == 0, said)
-    status, trace, said = checks.ran(["replay"], schedule)
+    status, trace, said = checks.run_program(["replay"], schedule)
     count.check(f"{what}: it runs", status == 0, said)
     return written, schedule, trace.decode().splitlines()
 
@@ -154,9 +154,9 @@ def recorded(count, folder):
         injected = sum(": inject " in line for line in written.splitlines())
         count.check(f"{what}: packets are those that were sent", injected <= 1, written)
         for command in (["explain"], ["draw"], ["draw", "--as", "mermaid"]):
-            status, text, said = checks.ran(command, schedule)
+            status, text, said = checks.run_program(command, schedule)
             count.check(f"{what}: {' '.join(command)}", status == 0 and text, said)
-    explained = checks.ran(["explain", "--agent", "2"], schedule)[1].decode()
+    explained = checks.run_program(["explain", "--agent", "2"], schedule)[1].decode()
     # (by gossip or by a state, whichever was first)
     count.check("explain says why the third node had the second event", re.search(r'because (slot \d carries )?event 2 "deploy" "v2": ("c" takes|new, and handed out)', explained), explained)
     count.check("and from where it continues", "because its snapshot keeps clock" in explained, explained)
@@ -168,6 +168,10 @@ def shown_of_records(count, folder):
     for node, name in (("web1", "a"), ("web2", "b")):
         os.makedirs(os.path.join(own, node))
         shutil.copy(os.path.join(folder, f"{name}.record"), os.path.join(own, node, "record"))
+        # (the handlers' logs that such a day leaves)
+        with open(os.path.join(own, node, "record"), encoding="ascii") as record, open(os.path.join(own, node, "handlers.log"), "w", encoding="ascii") as log:
+            for time, event, payload, _ in re.findall(r"^event (\d+) (\S+) (\S+) (\d)$", record.read(), re.M):
+                log.write(f"event {name} {time} {bytes.fromhex(event).decode()} {bytes.fromhex(payload).decode()}\n")
     # (the unproved program is started by a script that needs its own folder)
     with open(os.path.join(own, "serf-replay"), "w", encoding="utf-8") as file:
         file.write(f'#!/bin/sh\nexec {shlex.quote(checks.PROGRAM)} "$@"\n')
@@ -176,8 +180,8 @@ def shown_of_records(count, folder):
     for command in pages.of(pages.AGENT, "docs/AGENT.md"):
         if command.text.startswith(("examples/", "serf-replay ")):
             text = command.text.replace("examples/", f"{TOP}/examples/")
-            status, said = c_library.ran(["sh", "-ec", text], cwd=own, env=env)
-            count.check(command.name(), status == 0, said)
+            status, output = c_library.ran(["sh", "-ec", text], cwd=own, env=env)
+            count.check(command.name(), status == 0, output)
     picture = checks.text_of(os.path.join(own, "day.svg"))
     count.check("the day's picture", picture.startswith("<svg"), picture[:300])
 
@@ -200,14 +204,14 @@ def cut_off(count, folder):
             file.write(whole[:at])
         try:
             schedule = module.Schedule([module.Node(other, lambda what: None)], False).write()
-        except module.Fault as fault:
+        except module.RecordError as error:
             schedule = ""
-            count.check(f"cut at {at}: it has no call", at < 200 and "not the record of an agent" in str(fault), fault)
+            count.check(f"cut at {at}: it has no call", at < 200 and "not the record of an agent" in str(error), error)
         # (a life with more answers needs more of the record)
         count.check(f"cut at {at}: what is whole is read", len(schedule.splitlines()) >= len(last.splitlines()), schedule)
         last = schedule
         if number % 10 == 9:
-            status, _, said = checks.ran(["write"], schedule.encode())
+            status, _, said = checks.run_program(["write"], schedule.encode())
             count.check(f"cut at {at}: it can be read", status == 0, said)
     # (the second file begins with the clocks at its place, after any call of the first)
     at = whole.index("\n\n", len(whole) // 3) + 2
@@ -222,17 +226,17 @@ def cut_off(count, folder):
 
 
 def main():
-    words = argparse.ArgumentParser(description=__doc__, formatter_class=argparse.RawDescriptionHelpFormatter)
-    words.add_argument("--library")
-    words.add_argument("--over-ci", action="store_true")
-    asked = words.parse_args()
+    parser = argparse.ArgumentParser(description=__doc__, formatter_class=argparse.RawDescriptionHelpFormatter)
+    parser.add_argument("--library")
+    parser.add_argument("--over-ci", action="store_true")
+    options = parser.parse_args()
     count = checks.Checks()
-    fault = None if asked.library else c_library.fault_of_library(asked.over_ci)
+    fault = None if options.library else c_library.fault_of_library(options.over_ci)
     if fault:
         count.check("the library is built", False, fault)
         return count.finish()
     settings_on_page(count)
-    folder = os.path.dirname(os.path.abspath(asked.library or c_library.LIBRARY))
+    folder = os.path.dirname(os.path.abspath(options.library or c_library.LIBRARY))
     with tempfile.TemporaryDirectory(prefix="agent-") as own:
         built(count, folder, own)
         tested(count, folder, own)
@@ -256,10 +260,10 @@ def tested(count, folder, own):
         os.mkdir(records)
         return c_library.ran(words, env={**os.environ, "KITCHENRUE_RECORDS": records})
 
-    status, said = races.ran(run)
-    for end, name in TEST.findall(said):
-        count.check(name, end == "PASS", said_by(name, said))
-    count.check("they end well, and no line is unformatted or doubtful", status == 0, said[-2000:])
+    status, output = races.run_under_detector(run)
+    for end, name in TEST.findall(output):
+        count.check(name, end == "PASS", said_by(name, output))
+    count.check("they end well, and no line is unformatted or doubtful", status == 0, output[-2000:])
     if not os.path.exists(checks.PROGRAM):
         count.check("the program is built", False, "./prove makes it, and SERF_UNPROVED=1 uses the one that ./serf-replay compiled")
         return

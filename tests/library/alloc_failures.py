@@ -266,11 +266,11 @@ def outcomes(numbers):
         scratch.copy_sources(CASES, source)
         write_example(source)
         write_tests(source, numbers)
-        status, said = scratch.tried(source, "--fail-alloc", str(REFUSED))
+        status, output = scratch.run_tests(source, "--fail-alloc", str(REFUSED))
     came = {name: {} for name in numbers}
-    for name, k, how in re.findall(r"^ *came (\w+) (\d+) (.+)$", said, re.M):
+    for name, k, how in re.findall(r"^ *came (\w+) (\d+) (.+)$", output, re.M):
         came[name][int(k)] = how
-    return came, said, status
+    return came, output, status
 
 
 def refused_in(came):

@@ -49,11 +49,11 @@ SEEN = 120
 ASKED, ANSWERED = 10, 4
 
 # The minimum number of kills of each kind, and of events that a node accepted.
-LEAST_KILLS, LEAST_FIRED = 2, 40
+MIN_KILLS, MIN_FIRED = 2, 40
 
 # Of 100 events that were fired while a node of ours was up, at least so many have to have run there. An event doesn't count
 # if that node, or the one that fired it, was killed within so many seconds after it: it may never have been sent.
-LEAST_RAN, SENT = 60, 2
+MIN_RAN, SENT = 60, 2
 
 # So many events are fired when the cluster is at rest: each has to run on every node of ours.
 AT_REST = 10
@@ -67,8 +67,8 @@ def build(folder, library):
     path = os.path.join(folder, "node")
     flags = c_library.go_flags(os.path.join(library, os.path.basename(c_library.LIBRARY)))
     env = c_library.go_env(c_library.linked_packages(os.path.join(folder, "go")), kit.GOCODE) | flags
-    status, said = c_library.ran(["go", "build", "-tags", "faults", "-o", path, "kitchenrue.example/beside_serf/node"], env=env)
-    return path, said[-2000:] if status else None
+    status, output = c_library.ran(["go", "build", "-tags", "faults", "-o", path, "kitchenrue.example/beside_serf/node"], env=env)
+    return path, output[-2000:] if status else None
 
 
 class Stock(kit.Agent):
@@ -87,9 +87,9 @@ class Stock(kit.Agent):
 
     def seen(self):
         """Each member as this agent shows it: its status and its tags, by its name."""
-        status, said = self.serf("members", "-format=json")
+        status, output = self.serf("members", "-format=json")
         try:
-            return {one["name"]: (one["status"], one["tags"]) for one in json.loads(said)["members"]} if status == 0 else {}
+            return {one["name"]: (one["status"], one["tags"]) for one in json.loads(output)["members"]} if status == 0 else {}
         except ValueError:
             return {}
 
@@ -147,7 +147,7 @@ class Ours:
         return kit.Agent.end(self, how, wait)
 
 
-def ran(node, kinds=("event ",)):
+def handler_runs(node, kinds=("event ",)):
     """The events that a node's handler ran, each as a line, in order."""
     try:
         with open(node.events, encoding="utf-8") as file:
@@ -195,7 +195,7 @@ class Torment:
     def run(self, seconds):
         """Runs for at least so long, and until enough was fired and killed."""
         end, next_kill = time.monotonic() + seconds, time.monotonic() + 1
-        while time.monotonic() < end or min(self.count(True), self.count(False)) < LEAST_KILLS or len(self.fired) < LEAST_FIRED:
+        while time.monotonic() < end or min(self.count(True), self.count(False)) < MIN_KILLS or len(self.fired) < MIN_FIRED:
             for _ in range(self.draw.randint(1, 3)):
                 self.fire()
             time.sleep(self.draw.uniform(0.1, 0.4))
@@ -272,14 +272,14 @@ def asked(count, nodes):
     count.check("a query of ours is acked by all, and answered by ours", heard(), (acks, responses))
 
 
-def judged(nodes, folder, judge):
+def run_judge(nodes, folder, judge):
     """What the judge reports on the events and queries that ran on ours: its status and its text."""
     log = os.path.join(folder, "ours.log")
     words = [judge, "judge", log]
     with open(log, "w", encoding="utf-8") as file:
         for node in nodes:
             if node.is_ours:
-                file.write("".join(line + "\n" for line in ran(node, ("event ", "query "))))
+                file.write("".join(line + "\n" for line in handler_runs(node, ("event ", "query "))))
                 words += ["--kept", f"{node.name}={node.snapshot}"]
     return c_library.ran(words)
 
@@ -290,13 +290,13 @@ def still(nodes):
 
     def is_still():
         nonlocal last, since
-        now = [len(ran(node)) for node in nodes]
+        now = [len(handler_runs(node)) for node in nodes]
         if now != last:
             last, since = now, time.monotonic()
         return time.monotonic() - since > STILL
 
     until(is_still, SEEN)
-    return {node: ran(node) for node in nodes}
+    return {node: handler_runs(node) for node in nodes}
 
 
 def at_rest(count, torment, nodes):
@@ -307,7 +307,7 @@ def at_rest(count, torment, nodes):
     count.check("events at rest are accepted", texts <= set(torment.fired), torment.refused)
     for node in nodes:
         if node.is_ours:
-            lacks = lambda: texts - {line.split()[-1] for line in ran(node)}
+            lacks = lambda: texts - {line.split()[-1] for line in handler_runs(node)}
             count.check(f"each event at rest ran on {node.name}", until(lambda: not lacks(), SEEN), lacks())
 
 
@@ -331,14 +331,14 @@ def torn(count, nodes, asked_, folder):
             due = torment.due(node)
             found = due & {line.split()[-1] for line in counts}
             print(f"{node.name}: {len(found)} ran of {len(due)} that it was up for")
-            count.check(f"most events ran on {node.name}", 100 * len(found) >= LEAST_RAN * len(due), f"{len(found)} of {len(due)}")
+            count.check(f"most events ran on {node.name}", 100 * len(found) >= MIN_RAN * len(due), f"{len(found)} of {len(due)}")
     print(f"{len(torment.fired)} events, {torment.refused} refused; stock: {torment.count(False)} kills, {told[False, 'twice']} repeats, {told[False, 'once']} ran; "
           f"ours: {torment.count(True)} kills, {told[True, 'twice']} repeats, {told[True, 'once']} ran")
     judge = asked_.judge or checks.PROGRAM
     if not os.path.exists(judge):
         print(f"not run: the judge, since {judge} isn't built")
         return
-    status, text = judged(nodes, folder, judge)
+    status, text = run_judge(nodes, folder, judge)
     count.check("the judge", status == 0 and "Once: holds" in text, f"{status}: {text}")
 
 
@@ -372,18 +372,18 @@ def run(count, asked_, library, folder):
 
 
 def main():
-    words = argparse.ArgumentParser(description=__doc__, formatter_class=argparse.RawDescriptionHelpFormatter)
-    words.add_argument("--library")
-    words.add_argument("--over-ci", action="store_true")
-    words.add_argument("--stock", type=int, default=2)
-    words.add_argument("--ours", type=int, default=3)
-    words.add_argument("--seconds", type=float, default=25)
-    words.add_argument("--seed", type=int, default=1)
-    words.add_argument("--judge")
-    words.add_argument("--keep", action="store_true")
-    asked_ = words.parse_args()
+    parser = argparse.ArgumentParser(description=__doc__, formatter_class=argparse.RawDescriptionHelpFormatter)
+    parser.add_argument("--library")
+    parser.add_argument("--over-ci", action="store_true")
+    parser.add_argument("--stock", type=int, default=2)
+    parser.add_argument("--ours", type=int, default=3)
+    parser.add_argument("--seconds", type=float, default=25)
+    parser.add_argument("--seed", type=int, default=1)
+    parser.add_argument("--judge")
+    parser.add_argument("--keep", action="store_true")
+    asked_ = parser.parse_args()
     count = checks.Checks()
-    missing = kit.needed()
+    missing = kit.missing_command()
     if missing:
         print(f"not run, since {missing} is missing")
         return count.finish()

@@ -159,9 +159,9 @@ class Calls:
 def tear(chance, path, last):
     """Cuts the file after what was flushed at the last answer, appends garbage, and sometimes leaves a file next to it."""
     about = os.stat(path)
-    least = last.size if about.st_ino == last.inode else about.st_size
+    minimum = last.size if about.st_ino == last.inode else about.st_size
     with open(path, "r+b") as file:
-        file.truncate(chance.randint(least, about.st_size))
+        file.truncate(chance.randint(minimum, about.st_size))
         file.seek(0, os.SEEK_END)
         file.write(chance.choice(GARBAGE + [chance.randbytes(chance.randint(1, 40))]))
     if chance.random() < 0.2:
@@ -269,23 +269,23 @@ def two_at_once(count, host, folder):
 
 
 def main():
-    words = argparse.ArgumentParser(description=__doc__, formatter_class=argparse.RawDescriptionHelpFormatter)
-    words.add_argument("--kills", type=int, default=200)
-    words.add_argument("--seed", type=int, default=1)
-    words.add_argument("--slower", type=int, default=1)
-    words.add_argument("--library")
-    words.add_argument("--over-ci", action="store_true")
-    asked = words.parse_args()
+    parser = argparse.ArgumentParser(description=__doc__, formatter_class=argparse.RawDescriptionHelpFormatter)
+    parser.add_argument("--kills", type=int, default=200)
+    parser.add_argument("--seed", type=int, default=1)
+    parser.add_argument("--slower", type=int, default=1)
+    parser.add_argument("--library")
+    parser.add_argument("--over-ci", action="store_true")
+    options = parser.parse_args()
     count = checks.Checks()
     folder = tempfile.mkdtemp(prefix="crashes-")
     try:
         host = os.path.join(folder, "host")
-        fault = None if asked.library else c_library.fault_of_library(asked.over_ci)
-        fault = fault or c_library.fault_of_host(host, HOST, asked.library or c_library.LIBRARY)
+        fault = None if options.library else c_library.fault_of_library(options.over_ci)
+        fault = fault or c_library.fault_of_host(host, HOST, options.library or c_library.LIBRARY)
         if fault:
             count.check("the host is built", False, fault)
             return count.finish()
-        kills(count, host, folder, random.Random(asked.seed), asked.kills, asked.slower)
+        kills(count, host, folder, random.Random(options.seed), options.kills, options.slower)
         each_cut(count, host, folder)
         two_at_once(count, host, folder)
     finally:

@@ -82,23 +82,23 @@ def compile_c(count, places, name, source, more=(), library=None):
     return path if fault is None else None
 
 
-def counted(count, name, words, **more):
+def count_output(count, name, words, **more):
     """Runs a program that ends with 'N passed, M failed', and counts what it reports."""
-    status, said = c_library.ran(words, **more)
-    found = re.search(r"^(\d+) passed, (\d+) failed$", said, re.M)
-    count.check(f"{name} ends", found is not None and status == (int(found[2]) > 0), f"{status}: {said[-1500:]}")
+    status, output = c_library.ran(words, **more)
+    found = re.search(r"^(\d+) passed, (\d+) failed$", output, re.M)
+    count.check(f"{name} ends", found is not None and status == (int(found[2]) > 0), f"{status}: {output[-1500:]}")
     if found:
         count.add(int(found[1]), int(found[2]))
-        print("".join(line + "\n" for line in said.split("\n") if line.startswith("FAILED")), end="")
+        print("".join(line + "\n" for line in output.split("\n") if line.startswith("FAILED")), end="")
 
 
 def counted_tests(count, name, line, words, ran=c_library.ran, **more):
     """Runs the tests of a language; `line` finds each test's name and end."""
-    status, said = ran(words, **more)
-    found = list(re.finditer(line, said, re.M))
+    status, output = ran(words, **more)
+    found = list(re.finditer(line, output, re.M))
     for one in found:
-        count.check(f"{name}: {one['name']}", one["end"].lower() in ("pass", "ok"), said[-2000:])
-    count.check(f"{name} end well", status == 0 and found and "warning" not in said, f"{status}: {said[-2000:]}")
+        count.check(f"{name}: {one['name']}", one["end"].lower() in ("pass", "ok"), output[-2000:])
+    count.check(f"{name} end well", status == 0 and found and "warning" not in output, f"{status}: {output[-2000:]}")
 
 
 def bad_input(count, places):
@@ -121,12 +121,12 @@ def bad_input(count, places):
         source = os.path.join(SOURCES, f"{name}.c")
         plain = compile_c(count, places, name, source)
         if plain:
-            counted(count, what, [plain])
+            count_output(count, what, [plain])
         watched = compile_c(count, places, f"{name}_sanitized", source, sanitized) if can_sanitize else None
         if watched:
-            counted(count, f"{what}, sanitized", [watched])
+            count_output(count, f"{what}, sanitized", [watched])
         if plain and shutil.which("valgrind"):
-            counted(count, f"{what}, under valgrind", ["valgrind", "-q", "--error-exitcode=9", "--leak-check=full", plain, "500"])
+            count_output(count, f"{what}, under valgrind", ["valgrind", "-q", "--error-exitcode=9", "--leak-check=full", plain, "500"])
     if not can_sanitize:
         print("not run: the sanitizers, which this C compiler lacks")
     if not shutil.which("valgrind"):
@@ -139,19 +139,19 @@ def memory(count, places):
     wrapped = ["-g", "-Wl,--wrap=malloc,--wrap=realloc"]
     path = compile_c(count, places, "memory", os.path.join(SOURCES, "memory.c"), [*wrapped, "-Wl,--wrap=free"])
     if path:
-        counted(count, "out of memory", [path])
+        count_output(count, "out of memory", [path])
         if shutil.which("valgrind"):
-            counted(
+            count_output(
                 count,
                 "out of memory, under valgrind",
                 ["valgrind", "-q", "--error-exitcode=9", "--leak-check=full", path],
             )
     members = compile_c(count, places, "members", os.path.join(SOURCES, "members.c"), wrapped)
     if members:
-        counted(count, "what a host of members asks", [members])
+        count_output(count, "what a host of members asks", [members])
     open_events = compile_c(count, places, "open_events", os.path.join(SOURCES, "open_events.c"), wrapped)
     if open_events:
-        counted(count, "open events and lines about handlers", [open_events])
+        count_output(count, "open events and lines about handlers", [open_events])
     fault = starved.make(places)
     count.check("a library whose calls run out of memory", fault is None, fault)
 
@@ -161,10 +161,10 @@ def example(count, name, places, words, **more):
     folder = places.fresh(name)
     with open(os.path.join(BINDINGS, "example.out"), encoding="utf-8") as file:
         wanted = file.read()
-    status, said = c_library.ran([*words, folder], **more)
-    count.check(f"{name}: the example", (status, said) == (0, wanted), f"{status}: {said}")
+    status, output = c_library.ran([*words, folder], **more)
+    count.check(f"{name}: the example", (status, output) == (0, wanted), f"{status}: {output}")
     status, again = c_library.ran([*words, folder], **more)
-    handed = [line for line in (said + again).split("\n") if "handed out" in line]
+    handed = [line for line in (output + again).split("\n") if "handed out" in line]
     count.check(
         f"{name}: the example once more", status == 0 and len(set(handed)) == len(handed) == 8, f"{status}: {again}"
     )
@@ -176,10 +176,10 @@ def in_c(count, places):
         stores.try_store(count, "C", places, [driver])
     settle = compile_c(count, places, "settle", os.path.join(SOURCES, "settle.c"), ["-Wl,--wrap=malloc,--wrap=pread"])
     if settle:
-        counted(count, "what isn't on the disk", [settle, places.fresh("settle")])
+        count_output(count, "what isn't on the disk", [settle, places.fresh("settle")])
     texts = compile_c(count, places, "texts", os.path.join(SOURCES, "texts.c"), [os.path.join(BINDINGS, "c", "serf_agent_text.c")])
     if texts:
-        counted(count, "sentences and the version", [texts, checks.text_of("VERSION").strip()])
+        count_output(count, "sentences and the version", [texts, checks.text_of("VERSION").strip()])
     run = compile_c(count, places, "example", os.path.join(BINDINGS, "c", "example.c"))
     if run:
         example(count, "C", places, [run])
@@ -209,7 +209,7 @@ def in_python(count, places):
     more["env"]["PYTHONPATH"] = os.path.join(BINDINGS, "python")
     example(count, "Python", places, [sys.executable, "-m", "serf_agent"], **more)
     for name in ("bad_input", "members", "misuse", "keep", "handlers", "with_asyncio", "typed_host"):
-        counted(
+        count_output(
             count,
             f"{name} in Python",
             [sys.executable, os.path.join(SOURCES, f"{name}.py"), places.fresh(name)],
@@ -230,8 +230,8 @@ def in_rust(count, places):
         "env": dict(os.environ, SERF_AGENT_LIBRARY=places.library, CARGO_TARGET_DIR=target),
         "cwd": os.path.join(BINDINGS, "rust"),
     }
-    status, said = c_library.ran(["cargo", "build", "--offline", "--examples"], **more)
-    count.check("Rust builds, with no warning", status == 0 and "warning" not in said, said[-2000:])
+    status, output = c_library.ran(["cargo", "build", "--offline", "--examples"], **more)
+    count.check("Rust builds, with no warning", status == 0 and "warning" not in output, output[-2000:])
     if status:
         return
     stores.try_store(count, "Rust", places, [os.path.join(target, "debug", "examples", "store_driver")])
@@ -245,8 +245,8 @@ def in_rust(count, places):
     )
     bursts.try_bursts(count, "Rust", places, [os.path.join(target, "debug", "examples", "burst_driver")])
     more["env"]["SERF_AGENT_LIBRARY"] = places.starved
-    status, said = c_library.ran(["cargo", "build", "--offline", "--example", "starved_driver", "--example", "burst_driver"], **more)
-    count.check("Rust: the starved drivers build", status == 0, said[-2000:])
+    status, output = c_library.ran(["cargo", "build", "--offline", "--example", "starved_driver", "--example", "burst_driver"], **more)
+    count.check("Rust: the starved drivers build", status == 0, output[-2000:])
     if status == 0:
         starved.try_calls(count, "Rust", places, [os.path.join(target, "debug", "examples", "starved_driver")])
         bursts.try_starved(count, "Rust", places, [os.path.join(target, "debug", "examples", "burst_driver")])
@@ -297,8 +297,8 @@ def tests_in_go(count, places, more):
     """The tests of serfagent, watched for races if the detector is there, and what `go vet` reports about it. They are compiled once,
     and run in the package's folder with the words that `go test` has for them."""
     lean, path = {**more, "env": {**more["env"], **c_library.LEAN_GO}}, places.of("serfagent.test")
-    status, said = c_library.ran(["go", "vet", "."], **lean)
-    count.check("Go: vet of serfagent", status == 0, said[-2000:])
+    status, output = c_library.ran(["go", "vet", "."], **lean)
+    count.check("Go: vet of serfagent", status == 0, output[-2000:])
     compiled = ["go", "test", "-c", "-vet=off", "-o", path]
     status, built = c_library.ran([*compiled, "-race", "."], **lean)
     if status or c_library.ran([path, "-test.run", "NONE"], **more)[0]:
@@ -310,8 +310,8 @@ def tests_in_go(count, places, more):
 
     def ran(words, **own):
         # (what the compilers and the linker printed is checked too)
-        status, said = c_library.ran(words, **own)
-        return status, built + said
+        status, output = c_library.ran(words, **own)
+        return status, built + output
 
     counted_tests(
         count,
@@ -338,8 +338,8 @@ def node_in_go(count, places, env):
         file.write(host_lines.program("go"))
     beside = [f"kitchenrue.example/beside_serf/{name}" for name in ("node", "speed")]
     for what, packages in (("HOST's lines", ["lines"]), ("the programs of `beside`", beside)):
-        status, said = c_library.ran(["go", "vet", *packages], env=c_library.go_env(path, GO_CODE, own=env))
-        count.check(f"Go: vet of {what}", status == 0, said[-2000:])
+        status, output = c_library.ran(["go", "vet", *packages], env=c_library.go_env(path, GO_CODE, own=env))
+        count.check(f"Go: vet of {what}", status == 0, output[-2000:])
 
 
 def go_path(places, bindings):
@@ -352,15 +352,15 @@ def starved_node(count, places, env):
     while the result is read, no error is reported: so some more rounds are made after the first one without a report."""
     path = places.of("serf.test")
     env = c_library.go_env(go_path(places, places.of("go_starved")), GO_CODE, own=env_of_starved(env))
-    status, said = c_library.ran(["go", "test", "-c", "-vet=off", "-o", path, "kitchenrue.example/serf"], env=env)
-    count.check("Go: the starved node builds", status == 0, said[-2000:])
+    status, output = c_library.ran(["go", "test", "-c", "-vet=off", "-o", path, "kitchenrue.example/serf"], env=env)
+    count.check("Go: the starved node builds", status == 0, output[-2000:])
     granted, untold, is_well = 0, 0, status == 0
     while is_well and untold < UNTOLD and granted < starved.MAX_GRANTED:
         words = [path, "-test.run", "^TestABurstOfMoreThanMemoryHas$"]
-        status, said = c_library.ran(words, env=dict(os.environ, SERF_AGENT_GRANTED=str(granted)))
-        is_well = status == 0 and "no tests to run" not in said
-        count.check(f"Go: a node with {granted} requests for memory", is_well, said[-900:])
-        untold += "nothing ran out of memory" in said
+        status, output = c_library.ran(words, env=dict(os.environ, SERF_AGENT_GRANTED=str(granted)))
+        is_well = status == 0 and "no tests to run" not in output
+        count.check(f"Go: a node with {granted} requests for memory", is_well, output[-900:])
+        untold += "nothing ran out of memory" in output
         granted += 1
     count.check("Go: finally, a node with enough memory", 10 + UNTOLD < granted < starved.MAX_GRANTED, granted)
 
@@ -377,10 +377,10 @@ def in_pipe(count, places, program):
     ):
         status, report = piped_agents.compare([schedule], [agent], program)
         name = os.path.basename(schedule)
-        # (a row can be a schedule that is refused)
+        # (a row can be a schedule that is refused, or one without agents or actions)
         count.check(
             f"conform on {name}",
-            status == 0 or "bad line" in report or "too long" in report,
+            status == 0 or "bad line" in report or "too long" in report or report.endswith("no call but open was compared\n") and "wanted" not in report,
             f"{status}: {report[-600:]}",
         )
     for kind in checks.KINDS:
@@ -424,22 +424,22 @@ def run(total, name, part, *words):
 
 
 def main():
-    words = argparse.ArgumentParser(description=__doc__, formatter_class=argparse.RawDescriptionHelpFormatter)
-    words.add_argument("--library")
-    words.add_argument("--over-ci", action="store_true")
-    words.add_argument("--program")
-    asked = words.parse_args()
+    parser = argparse.ArgumentParser(description=__doc__, formatter_class=argparse.RawDescriptionHelpFormatter)
+    parser.add_argument("--library")
+    parser.add_argument("--over-ci", action="store_true")
+    parser.add_argument("--program")
+    options = parser.parse_args()
     total = checks.Checks()
     folder = tempfile.mkdtemp(prefix="embed-")
     os.chmod(folder, 0o755)
     try:
-        places = Places(folder, os.path.abspath(asked.library or c_library.LIBRARY))
-        fault = None if asked.library else c_library.fault_of_library(asked.over_ci)
+        places = Places(folder, os.path.abspath(options.library or c_library.LIBRARY))
+        fault = None if options.library else c_library.fault_of_library(options.over_ci)
         fault = fault or c_library.fault_of_shared(places.shared, places.library)
         if fault:
             total.check("the library is built", False, fault)
             return total.finish()
-        crate = None if asked.library else c_library.CRATE
+        crate = None if options.library else c_library.CRATE
         run(total, "declarations", declared, places, crate)
         run(total, "bad input", bad_input, places)
         run(total, "memory", memory, places)
@@ -447,7 +447,7 @@ def main():
         run(total, "python", in_python, places)
         run(total, "rust", in_rust, places)
         run(total, "go", in_go, places)
-        run(total, "pipe", in_pipe, places, asked.program and os.path.abspath(asked.program))
+        run(total, "pipe", in_pipe, places, options.program and os.path.abspath(options.program))
     finally:
         shutil.rmtree(folder)
     return total.finish()

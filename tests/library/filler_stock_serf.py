@@ -109,18 +109,18 @@ def main():
     parser = argparse.ArgumentParser(description=__doc__, formatter_class=argparse.RawDescriptionHelpFormatter)
     parser.add_argument("--library")
     parser.add_argument("--over-ci", action="store_true")
-    asked = parser.parse_args()
+    options = parser.parse_args()
     count = checks.Checks()
     missing = [name for name in ("go", "serf") if shutil.which(name) is None]
     if missing:
         print(f"not run: {', '.join(missing)} isn't on PATH")
         return count.finish()
-    fault = None if asked.library else c_library.fault_of_library(asked.over_ci)
+    fault = None if options.library else c_library.fault_of_library(options.over_ci)
     if fault:
         count.check("the library for C is there", False, fault)
         return count.finish()
     with tempfile.TemporaryDirectory(prefix="filler-") as folder:
-        places = hosts.Places(folder, os.path.abspath(asked.library or c_library.LIBRARY))
+        places = hosts.Places(folder, os.path.abspath(options.library or c_library.LIBRARY))
         trial = Trial(count, folder, hosts.InGo(places, with_little_filler=False))
         trial.both("whole")
         trial.both("torn", b"event-clock: 99")

@@ -65,7 +65,7 @@ def all_bodies():
     return [Body(folder, edit) for folder, path in FOLDERS.items() for edit in edit_files.written_in(os.path.join(TOP, path, "mutants"))]
 
 
-def drawn(bodies):
+def drawn_bodies(bodies):
     """The wrong bodies that the commit selects, or a random number if there is no commit."""
     commit = evidence.commit() or secrets.token_hex(20)
     return [body for body in bodies if not body.edit.slow and evidence.drawn_number(commit, body.folder, body.name) < SHARE]
@@ -84,8 +84,8 @@ class Place:
     def compiled(self, package):
         """Compiles the tests of a package. Returns the compiler's output if it failed, or None."""
         words = ["go", "test", "-c", "-vet=off", "-o", self.program(package), f"kitchenrue.example/{package}"]
-        status, said = c_library.ran(words, env=self.env)
-        return said or "go test failed" if status else None
+        status, output = c_library.ran(words, env=self.env)
+        return output or "go test failed" if status else None
 
     def program(self, package):
         return os.path.join(self.folder, package.replace("/", "_") + ".test")
@@ -98,12 +98,12 @@ class Place:
         """Runs tests of a package with a wrong body on, or with none. Returns the names of those that failed, and the output."""
         words = [self.program(package), "-test.v", "-test.timeout", LIMIT, "-test.run", f"^({'|'.join(tests)})$"]
         env = {**os.environ, planting.VARIABLE: planted}
-        status, said = c_library.ran(words, cwd=os.path.join(self.source, package), env=env)
-        failed = re.findall(r"^--- FAIL: (\w+)", said, re.M)
+        status, output = c_library.ran(words, cwd=os.path.join(self.source, package), env=env)
+        failed = re.findall(r"^--- FAIL: (\w+)", output, re.M)
         if status and not failed:
             # (a test that panics, or that is cut off, ends the others too: it is the one that began last)
-            failed = re.findall(r"^=== RUN   (\w+)$", said, re.M)[-1:]
-        return failed, said
+            failed = re.findall(r"^=== RUN   (\w+)$", output, re.M)[-1:]
+        return failed, output
 
 
 def check_bodies(count, bodies):
@@ -180,7 +180,7 @@ def main():
     if fault:
         count.check("everything that it needs is there", False, fault)
         return count.finish()
-    chosen = bodies if words.all else [body for body in bodies if body.name in words.names] if words.names else drawn(bodies)
+    chosen = bodies if words.all else [body for body in bodies if body.name in words.names] if words.names else drawn_bodies(bodies)
     try_bodies(count, bodies, chosen, os.path.abspath(words.library or c_library.LIBRARY))
     return count.finish()
 

@@ -31,17 +31,17 @@ import texts
 from serf_agent import handlers, switches
 
 # The minimum number of texts of each kind in all seeds together, and of texts with each of these results.
-LEAST = {
+MINIMUMS = {
     "host": 150, "changed": 300, "strange": 300, "without": 75, "cut": 6000, "sealed": 6000, "agent": 300,
     "says nothing": 500, "nothing is open": 500, "waits": 3000, "began": 3000,
 }
 
 # Errors that are planted into a copy of the binding: what is replaced by what in its handlers.py.
 PLANTED = {
-    "an event that began is reported as one that waits": ("bytes(payload), each.begun)", "bytes(payload), False)"),
-    "name and payload trade places": ("OpenEvent(each.time, bytes(name), bytes(payload)", "OpenEvent(each.time, bytes(payload), bytes(name)"),
-    "a text with nothing open says nothing": ("if not all.tracked:", "if not all.events:"),
-    "the first open event is left out": ("for each in events:", "for each in list(events)[1:]:"),
+    "an event that began is reported as one that waits": ("bytes(payload), c_event.begun)", "bytes(payload), False)"),
+    "name and payload trade places": ("OpenEvent(c_event.time, bytes(name), bytes(payload)", "OpenEvent(c_event.time, bytes(payload), bytes(name)"),
+    "a text with nothing open says nothing": ("if not summary.tracked:", "if not summary.events:"),
+    "the first open event is left out": ("for c_event in c_events:", "for c_event in list(c_events)[1:]:"),
 }
 
 
@@ -77,8 +77,18 @@ def binding_in(folder):
         sys.modules.update(own)
 
 
+def library_in(folder, library):
+    """The library as a shared one in this folder, from a static one, and what went wrong, or None."""
+    shared = os.path.join(folder, "libserf_agent.so")
+    fault = c_library.fault_of_shared(shared, os.path.abspath(library))
+    if fault:
+        return None, fault
+    os.environ["SERF_AGENT_LIBRARY"] = shared
+    return Library(os.path.join(checks.TOP, "bindings", "python")), None
+
+
 def results_of(found):
-    """The words of LEAST that a result counts for."""
+    """The words of MINIMUMS that a result counts for."""
     if found is None:
         return ["says nothing"]
     words = {"began" if has_begun else "waits" for _, has_begun in found}
@@ -118,9 +128,9 @@ def compare(count, library, seeds, folder):
         fault = lines_differ(texts.events_of(seed), library)
         count.check(f"seed {seed}: both write the same", not fault, fault)
     total = sum(seen[kind] for kind in texts.KINDS)
-    print(f"seeds {seeds[0]}-{seeds[-1]}: {total:,} texts; " + ", ".join(f"{seen[name]:,} {name}" for name in LEAST))
-    for name, least in LEAST.items():
-        count.check(f"{name} occurred often enough", seen[name] >= least, f"{seen[name]}, and {least} are needed")
+    print(f"seeds {seeds[0]}-{seeds[-1]}: {total:,} texts; " + ", ".join(f"{seen[name]:,} {name}" for name in MINIMUMS))
+    for name, minimum in MINIMUMS.items():
+        count.check(f"{name} occurred often enough", seen[name] >= minimum, f"{seen[name]}, and {minimum} are needed")
 
 
 def first_found(library, seeds):
@@ -152,23 +162,20 @@ def plant(count, library, seeds, folder):
 
 
 def main():
-    words = argparse.ArgumentParser(description=__doc__, formatter_class=argparse.RawDescriptionHelpFormatter)
-    words.add_argument("--library")
-    words.add_argument("--over-ci", action="store_true")
-    words.add_argument("--seeds", default="1-4")
-    asked = words.parse_args()
-    first, _, last = asked.seeds.partition("-")
+    parser = argparse.ArgumentParser(description=__doc__, formatter_class=argparse.RawDescriptionHelpFormatter)
+    parser.add_argument("--library")
+    parser.add_argument("--over-ci", action="store_true")
+    parser.add_argument("--seeds", default="1-4")
+    options = parser.parse_args()
+    first, _, last = options.seeds.partition("-")
     seeds = range(int(first), int(last or first) + 1)
     count = checks.Checks()
-    fault = None if asked.library else c_library.fault_of_library(asked.over_ci)
+    fault = None if options.library else c_library.fault_of_library(options.over_ci)
     with tempfile.TemporaryDirectory(dir="/dev/shm" if os.access("/dev/shm", os.W_OK) else None) as folder:
-        shared = os.path.join(folder, "libserf_agent.so")
-        fault = fault or c_library.fault_of_shared(shared, os.path.abspath(asked.library or c_library.LIBRARY))
+        library, fault = (None, fault) if fault else library_in(folder, options.library or c_library.LIBRARY)
         if fault:
             count.check("the library is built", False, fault)
             return count.finish()
-        os.environ["SERF_AGENT_LIBRARY"] = shared
-        library = Library(os.path.join(checks.TOP, "bindings", "python"))
         compare(count, library, seeds, folder)
         plant(count, library, seeds, folder)
     return count.finish()

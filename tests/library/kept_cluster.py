@@ -43,7 +43,7 @@ from checks import TOP
 
 sys.path[:0] = [os.path.join(TOP, part) for part in ("tests/library", "conformance/python")]
 import beside_serf
-from beside_serf import kit, ran, until
+from beside_serf import kit, handler_runs, until
 from serf_agent import kept
 from serf_agent.snapshot import values_in
 
@@ -174,7 +174,7 @@ class Torment:
 
         def is_still():
             nonlocal last, since
-            now = [len(ran(node)) for node in self.nodes]
+            now = [len(handler_runs(node)) for node in self.nodes]
             if now != last:
                 last, since = now, time.monotonic()
             return time.monotonic() - since > STILL
@@ -192,7 +192,7 @@ def cause(node, text, time, without):
     if without:
         # (the clock line of exactly this time, and no event of this time ran)
         has_line = any(re.search(rb"^event-clock: 0*%d$" % time, left, re.M) for left in node.left)
-        if has_line and not any(line.split()[2] == str(time) for line in ran(node)):
+        if has_line and not any(line.split()[2] == str(time) for line in handler_runs(node)):
             return "in flight"
         is_old = any(values_in(left)["event-clock"] >= time for left in node.left)
     else:
@@ -209,7 +209,7 @@ class Outcome:
         self.once = self.twice = 0
         self.missed = collections.Counter()
         for node in torment.nodes:
-            counts = collections.Counter(line.split()[-1] for line in ran(node))
+            counts = collections.Counter(line.split()[-1] for line in handler_runs(node))
             self.twice += sum(count - 1 for count in counts.values())
             self.once += sum(text in counts for text in torment.fired)
             for text, at in torment.fired.items():
@@ -246,7 +246,7 @@ def run(count, asked, library, folder):
         for node in nodes:
             node.start()
         torment.run()
-        count.check("the cluster comes to rest", torment.rest(), [len(ran(node)) for node in nodes])
+        count.check("the cluster comes to rest", torment.rest(), [len(handler_runs(node)) for node in nodes])
     finally:
         for node in nodes:
             node.end()
@@ -264,32 +264,32 @@ def run(count, asked, library, folder):
 
 
 def main():
-    words = argparse.ArgumentParser(description=__doc__, formatter_class=argparse.RawDescriptionHelpFormatter)
-    words.add_argument("--library")
-    words.add_argument("--over-ci", action="store_true")
-    words.add_argument("--nodes", type=int, default=4)
-    words.add_argument("--kills", type=int, default=12)
-    words.add_argument("--seconds", type=float, default=6)
-    words.add_argument("--rate", type=float, default=20, help="about how many events a second")
-    words.add_argument("--seed", type=int, default=1)
-    words.add_argument("--cut", action="store_true")
-    words.add_argument("--without", action="store_true")
-    words.add_argument("--keep", action="store_true")
-    asked = words.parse_args()
+    parser = argparse.ArgumentParser(description=__doc__, formatter_class=argparse.RawDescriptionHelpFormatter)
+    parser.add_argument("--library")
+    parser.add_argument("--over-ci", action="store_true")
+    parser.add_argument("--nodes", type=int, default=4)
+    parser.add_argument("--kills", type=int, default=12)
+    parser.add_argument("--seconds", type=float, default=6)
+    parser.add_argument("--rate", type=float, default=20, help="about how many events a second")
+    parser.add_argument("--seed", type=int, default=1)
+    parser.add_argument("--cut", action="store_true")
+    parser.add_argument("--without", action="store_true")
+    parser.add_argument("--keep", action="store_true")
+    options = parser.parse_args()
     count = checks.Checks()
-    missing = kit.needed(["go"])
+    missing = kit.missing_command(["go"])
     if missing:
         print(f"not run, since {missing} is missing")
         return count.finish()
-    fault = None if asked.library else c_library.fault_of_library(asked.over_ci)
+    fault = None if options.library else c_library.fault_of_library(options.over_ci)
     if fault:
         count.check("the library is built", False, fault)
         return count.finish()
     folder = tempfile.mkdtemp(prefix="kept-cluster-")
     try:
-        run(count, asked, os.path.dirname(os.path.abspath(asked.library or c_library.LIBRARY)), folder)
+        run(count, options, os.path.dirname(os.path.abspath(options.library or c_library.LIBRARY)), folder)
     finally:
-        if asked.keep:
+        if options.keep:
             print(f"the files are in {folder}")
         else:
             shutil.rmtree(folder)

@@ -274,22 +274,22 @@ def run(count, binding, asked):
 
 
 def main():
-    words = argparse.ArgumentParser(description=__doc__, formatter_class=argparse.RawDescriptionHelpFormatter)
-    words.add_argument("--library")
-    words.add_argument("--over-ci", action="store_true")
-    words.add_argument("--seeds", default="1-40")
-    words.add_argument("--steps", type=int, default=100)
-    asked = words.parse_args()
+    parser = argparse.ArgumentParser(description=__doc__, formatter_class=argparse.RawDescriptionHelpFormatter)
+    parser.add_argument("--library")
+    parser.add_argument("--over-ci", action="store_true")
+    parser.add_argument("--seeds", default="1-40")
+    parser.add_argument("--steps", type=int, default=100)
+    options = parser.parse_args()
     count = checks.Checks()
-    fault = None if asked.library else c_library.fault_of_library(asked.over_ci)
+    fault = None if options.library else c_library.fault_of_library(options.over_ci)
     with tempfile.TemporaryDirectory() as folder:
         shared = os.path.join(folder, "libserf_agent.so")
-        fault = fault or c_library.fault_of_shared(shared, os.path.abspath(asked.library or c_library.LIBRARY))
+        fault = fault or c_library.fault_of_shared(shared, os.path.abspath(options.library or c_library.LIBRARY))
         if fault:
             count.check("the library is built", False, fault)
             return count.finish()
         os.environ["SERF_AGENT_LIBRARY"] = shared
-        run(count, binding_for_python(), asked)
+        run(count, binding_for_python(), options)
     return count.finish()
 
 

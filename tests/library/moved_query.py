@@ -40,11 +40,11 @@ def is_refused(last, error):
     """Whether the code with this last line has this error and no other, and what the toolchain printed."""
     with scratch.crate("moved_query", ["serf_agent"]) as source:
         scratch.write(source, "lib.rt", CODE + last + "}\n")
-        status, said = scratch.tried(source)
-    errors = ERROR.findall(said)
+        status, output = scratch.run_tests(source)
+    errors = ERROR.findall(output)
     line = CODE.count("\n") + 1
     well = len(errors) == 1 and int(errors[0][0]) == line and errors[0][1].startswith(error)
-    return status == 1 and well and said.count("error[") == 1, said
+    return status == 1 and well and output.count("error[") == 1, output
 
 
 def moved(count):

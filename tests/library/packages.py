@@ -15,7 +15,6 @@ import importlib.util
 import os
 import re
 import shutil
-import subprocess
 import sys
 import tempfile
 import time
@@ -27,30 +26,22 @@ import pages
 from checks import TOP
 import c_library
 import manual_of_header
+import rust_of_header
 
 HERE = os.path.join(TOP, "tests", "library", "packages")
 sys.path.insert(0, HERE)
 import host_lines
+from in_rust import in_rust
+from in_source import in_source
+from users import AS_USER, ELSEWHERE, OFF_LINE, NotRun, as_shown, by_user, env_of, write_given, refused, well, write
 
 BINDINGS = os.path.join(TOP, "bindings")
 
 # Copies of files in the bindings' own folders, and the originals.
-COPIES = {"go/serfagent/serf_agent.h": "../include/serf_agent.h", "go/serfagent/serf_agent_heap.c": "c/serf_agent_heap.c", "rust/LICENSE": "../LICENSE", "python/LICENSE": "../LICENSE", **{f"go/{module}LICENSE": "../LICENSE" for module in ("", "guard/", "serf/", "serfagent/", "beside_serf/")}}
-
-# The words that run a command as a user who isn't root, can read root's folders (with the compilers), and has no network.
-OFF_LINE = ["unshare", "--net"] if os.geteuid() == 0 and c_library.ran(["unshare", "--net", "true"])[0] == 0 else []
-NOBODY = [*OFF_LINE, "setpriv", "--reuid=65534", "--regid=65534", "--clear-groups", "--inh-caps=+dac_read_search", "--ambient-caps=+dac_read_search"]
-AS_USER = NOBODY if os.geteuid() == 0 else []
+COPIES = {"go/serfagent/serf_agent.h": "../include/serf_agent.h", "go/serfagent/serf_agent_heap.c": "c/serf_agent_heap.c", "rust/LICENSE": "../LICENSE", "rust/sys/LICENSE": "../LICENSE", "python/LICENSE": "../LICENSE", **{f"go/{module}LICENSE": "../LICENSE" for module in ("", "guard/", "serf/", "serfagent/", "beside_serf/")}}
 
 # The folder of Debian's Go packages.
 GO_CODE = "/usr/share/gocode"
-
-# The words with which the machine reports another type.
-ELSEWHERE = ["setarch", "i686"]
-
-
-class NotRun(Exception):
-    """A part can't be run here, for this reason."""
 
 
 class NoAgent:
@@ -111,49 +102,6 @@ class Archive:
         return to
 
 
-def env_of(home, **more):
-    own = {name: os.environ[name] for name in ("PATH", "RUSTUP_HOME", "CC") if name in os.environ}
-    if shutil.which("cargo") and "RUSTUP_HOME" not in own:
-        own["RUSTUP_HOME"] = os.path.expanduser("~/.rustup")
-    return {**own, "HOME": home, "LANG": "C.UTF-8", "CARGO_HOME": os.path.join(home, "cargo"), "CARGO_NET_OFFLINE": "true", "PYTHONDONTWRITEBYTECODE": "1", "PIP_DISABLE_PIP_VERSION_CHECK": "1", **more}
-
-
-def by_user(folder, *words, home=None, **env):
-    """The status of the user's command, and what it prints."""
-    return c_library.ran([*AS_USER, *words], cwd=folder, env=env_of(home or folder, **env))
-
-
-def well(count, name, answer, said=None):
-    """A command that has to end well, and to print exactly this."""
-    holds = answer[0] == 0 and (said is None or answer[1] == said)
-    count.check(name, holds, f"{answer[0]}: {answer[1][-1500:]}")
-    return holds
-
-
-def refused(count, name, answer, sentence):
-    """A command that has to be refused, with a sentence that has these words."""
-    count.check(f"refused: {name}", answer[0] != 0 and re.search(sentence, answer[1]), f"{answer[0]}: {answer[1][-1500:]}")
-
-
-def as_shown(binding):
-    """The commands of a binding's page."""
-    return pages.of(pages.PACKAGES, f"bindings/{binding}/README.md")
-
-
-def write(path, text):
-    with open(path, "wb" if isinstance(text, bytes) else "w") as file:
-        file.write(text)
-    os.chmod(path, 0o755)
-    return path
-
-
-def given(folder, name, text):
-    """A file in a folder of the user's."""
-    path = write(os.path.join(folder, name), text)
-    if AS_USER:
-        os.chown(path, 65534, 65534)
-
-
 def aged(path, to):
     """A copy of a library or a program that needs a future C library, as today's one does on an old system."""
     with open(path, "rb") as file:
@@ -162,11 +110,19 @@ def aged(path, to):
     return write(to, text.replace(b"GLIBC_2." + newest + b"\0", b"GLIBC_2.99\0"))
 
 
+def foreign(path, to):
+    """A copy of a library that says that it is for another processor."""
+    with open(path, "rb") as file:
+        text = file.read()
+    return write(to, text[:18] + (b"\xb7" if text[18:19] == b"\x3e" else b"\x3e") + text[19:])
+
+
 def files(count, archive):
     """Copies are the same as their originals, the manual page is the header's, and all have one version."""
     for copy, of in COPIES.items():
         count.check(f"bindings/{copy} is a copy of bindings/{of}", filecmp.cmp(os.path.join(BINDINGS, copy), os.path.join(BINDINGS, of), shallow=False))
     count.check("docs/serf_agent.3 is the header's: tools/manual_of_header.py writes it", manual_of_header.main(["--check"]) == 0)
+    count.check("the declarations of serf-agent-sys are the header's: tools/rust_of_header.py writes them", rust_of_header.main(["--check"]) == 0)
     if shutil.which("groff"):
         well(count, "groff reads the page", c_library.ran(["bash", "-c", f"groff -man -Tutf8 -ww {TOP}/docs/serf_agent.3 2>&1 >/dev/null"]), "")
     else:
@@ -193,7 +149,7 @@ def in_c(count, archive):
     if well(count, "a host over the static library", by_user(home, *static), ""):
         well(count, "the example over the static library", by_user(home, run, archive.home_of(home, "static")), archive.example)
     lines = archive.home_of(home, "lines")
-    given(lines, "host.c", host_lines.program("c"))
+    write_given(lines, "host.c", host_lines.program("c"))
     static[-3:] = ["-Wall", "-Wextra", "-Werror", "-o", "host", "host.c", static[-1]]
     if well(count, "HOST's lines in C", by_user(lines, *static, home=home), ""):
         well(count, "what they print", by_user(lines, "./host", home=home), host_lines.SAYS)
@@ -239,7 +195,7 @@ def in_python(count, archive):
             return
     well(count, "python -m serf_agent FOLDER", by_user(home, python, "-m", "serf_agent", archive.home_of(home, "kept")), archive.example)
     lines = archive.home_of(home, "lines")
-    given(lines, "host.py", host_lines.program("python"))
+    write_given(lines, "host.py", host_lines.program("python"))
     well(count, "HOST's lines in Python", by_user(lines, python, "host.py", home=home), host_lines.SAYS)
     said = by_user(home, python, os.path.join(HERE, "typed.py"))
     well(count, "every method is typed, and the version is the package's", said, "")
@@ -250,9 +206,11 @@ def in_python(count, archive):
     described(count, home, python)
     refused(count, "no library in Python", by_user(home, python, "-m", "serf_agent", SERF_AGENT_LIBRARY="/none"), "^serf_agent: the library can't be loaded: /none: ")
     refused(count, "a folder that isn't there", by_user(home, python, "-m", "serf_agent", "/none"), "^/none/alpha.snapshot: No such file or directory$")
-    refused(count, "another machine in Python", by_user(home, *ELSEWHERE, python, "-m", "serf_agent"), "^serf_agent: the library is for Linux on x86-64 or aarch64, and this system is Linux on i686$")
+    refused(count, "another machine in Python", by_user(home, *ELSEWHERE, python, "-m", "serf_agent"), "^serf_agent: the library is for Linux on x86-64 or aarch64, and this system is Linux on i686: install it in a machine or a container of that kind$")
     old = aged(archive.path("lib", "libserf_agent.so"), os.path.join(home, "libserf_agent.so"))
-    refused(count, "an old C library in Python", by_user(home, python, "-m", "serf_agent", SERF_AGENT_LIBRARY=old), "is older than the one that it was linked with")
+    refused(count, "an old C library in Python", by_user(home, python, "-m", "serf_agent", SERF_AGENT_LIBRARY=old), "is older than the one that it was linked with: install the source package, ")
+    other = foreign(archive.path("lib", "libserf_agent.so"), os.path.join(home, "foreign.so"))
+    refused(count, "another processor's library in Python", by_user(home, python, "-m", "serf_agent", SERF_AGENT_LIBRARY=other), r"; it is for \w+, and this processor is \w+: install the wheel that ends with _\w+\.whl$")
     builder = [python, archive.path("bindings", "python", "build_wheel.py"), home]
     well(count, "a wheel for a newer C library", by_user(home, *builder, SERF_AGENT_LIBRARY=old))
     (new,) = glob.glob(os.path.join(home, "*manylinux_2_99*.whl"))
@@ -286,38 +244,6 @@ def from_sources(count, archive, home):
     count.check("it is the same, byte by byte", filecmp.cmp(archive.sdist, os.path.join(home, os.path.basename(archive.sdist)), shallow=False))
     by_user(unpacked, "rm", "native/libserf_agent_c.a")
     refused(count, "a source package without the library", by_user(unpacked, python, "build_wheel.py", "--sdist", home), "^serf_agent: there is no libserf_agent_c.a at ")
-
-
-def in_rust(count, archive):
-    """`cargo package` verifies, and a user's crate depends on the archive's."""
-    if shutil.which("cargo") is None:
-        raise NotRun("cargo is not on PATH")
-    home = archive.home()
-    target = {"CARGO_TARGET_DIR": os.path.join(home, "target")}
-    own = os.path.join(home, "app")
-    os.makedirs(os.path.join(own, "src"))
-    write(os.path.join(own, "Cargo.toml"), f'[package]\nname = "app"\nversion = "0.1.0"\nedition = "2021"\n\n[dependencies]\nserf_agent = {{ path = "{archive.path("bindings", "rust")}" }}\n')
-    shutil.copy(archive.path("bindings", "rust", "examples", "two_agents.rs"), os.path.join(own, "src", "main.rs"))
-    os.mkdir(os.path.join(own, "src", "bin"))
-    write(os.path.join(own, "src", "bin", "lines.rs"), host_lines.program("rust"))
-    if AS_USER:
-        subprocess.run(["chown", "-R", "65534:65534", own], check=True)
-    if well(count, "a crate that depends on the archive's builds", by_user(own, "cargo", "build", "-q", home=home, **target), ""):
-        well(count, "the example in Rust", by_user(own, os.path.join(home, "target", "debug", "app"), archive.home_of(home, "kept")), archive.example)
-        well(count, "HOST's lines in Rust", by_user(own, os.path.join(home, "target", "debug", "lines")), host_lines.SAYS)
-    crate = archive.copy(home, "bindings", "rust")
-    answer = by_user(crate, "cargo", "package", home=home, **target)
-    well(count, "cargo package verifies", answer)
-    count.check("cargo package prints nothing about what is missing", "Verifying" in answer[1] and not re.search(r"warning: (?!ignoring example)", answer[1]), answer[1])
-    for shown in as_shown("rust"):
-        answer = by_user(crate, "sh", "-ec", shown.text.replace("FOLDER", archive.home_of(home, "shown")), home=home, **target)
-        count.check(shown.name(), answer[0] == 0 and answer[1].endswith(archive.example), answer)
-    shutil.rmtree(os.path.join(crate, "native"))
-    refused(count, "no library in Rust", by_user(crate, "cargo", "build", home=home, **target), r"serf_agent: the static library isn't in this package: set SERF_AGENT_LIBRARY to")
-    refused(count, "a library that isn't there", by_user(crate, "cargo", "build", home=home, SERF_AGENT_LIBRARY="/none/a.a", **target), r"serf_agent: there is no library at /none/a\.a")
-    scripts = glob.glob(os.path.join(home, "target", "debug", "build", "serf_agent-*", "build-script-build"))
-    elsewhere = {"CARGO_CFG_TARGET_OS": "macos", "CARGO_CFG_TARGET_ARCH": "aarch64"}
-    refused(count, "another machine in Rust", by_user(crate, scripts[0], **elsewhere), "^serf_agent: the library is for Linux on x86-64 or aarch64, and the target is macos on aarch64$")
 
 
 def in_go(count, archive):
@@ -354,8 +280,8 @@ def in_go(count, archive):
     well(count, "a user of the fork", by_user(own, "go", "build", "-o", "forked", ".", **more), "")
     refused(count, "without cgo", by_user(module, "go", "build", ".", **{**more, "CGO_ENABLED": "0"}), "serfagent_is_for_Linux_on_x86_64_or_aarch64_and_needs_cgo_with_a_C_compiler")
     for system in ({"GOARCH": "arm64"}, {"GOOS": "darwin"}):
-        status, said = by_user(module, "go", "build", ".", **{**more, "CGO_ENABLED": "0", **system})
-        count.check(f"refused with one line: {system}", status != 0 and said.count(".go:") == 1 and "serfagent_is_for_Linux" in said, (status, said))
+        status, output = by_user(module, "go", "build", ".", **{**more, "CGO_ENABLED": "0", **system})
+        count.check(f"refused with one line: {system}", status != 0 and output.count(".go:") == 1 and "serfagent_is_for_Linux" in output, (status, output))
     node_in_go(count, archive, home)
 
 
@@ -369,14 +295,14 @@ def node_in_go(count, archive, home):
     blocks = {text.split()[0]: text for _, text in reversed(list(pages.blocks("docs/GO.md")))}
     own = archive.home_of(home, "node")
     by_user(own, "ln", "-s", archive.top, re.search(r"\$PWD/([^/\s]+)/bindings/go", blocks["mkdir"])[1])
-    given(own, "main.go", blocks["package"].replace("127.0.0.1", f"127.{os.getpid() >> 8 & 127 | 128}.{os.getpid() & 255}.9"))
+    write_given(own, "main.go", blocks["package"].replace("127.0.0.1", f"127.{os.getpid() >> 8 & 127 | 128}.{os.getpid() & 255}.9"))
     answer = by_user(own, "sh", "-ec", blocks["mkdir"], home=home, GOCACHE=os.path.join(archive.root, "cache"), **c_library.LEAN_GO)
     if not well(count, "the lines of docs/GO.md build its program", answer, ""):
         return
     for at in (1, 2):
         # (without a network, there is no loopback address either)
-        status, said = c_library.ran([*AS_USER[len(OFF_LINE) :], "timeout", "300", os.path.join(own, "web1")], cwd=own, env=env_of(home))
-        count.check(f"it is handed its event at {at}", status == 0 and f"handled deploy v1 at {at}\n" in said, f"{status}: {said[-1500:]}")
+        status, output = c_library.ran([*AS_USER[len(OFF_LINE) :], "timeout", "300", os.path.join(own, "web1")], cwd=own, env=env_of(home))
+        count.check(f"it is handed its event at {at}", status == 0 and f"handled deploy v1 at {at}\n" in output, f"{status}: {output[-1500:]}")
     drop_in(count, archive, home, blocks["package"])
 
 
@@ -408,9 +334,9 @@ def drop_in(count, archive, home, page):
     refused(count, "a folder that exists", by_user(top, script, serf, folder), "^drop_in: .* exists already$")
     refused(count, "a folder without Serf's sources", by_user(top, script, home, os.path.join(top, "none")), "^drop_in: .*/client is missing")
     env = {"GO111MODULE": "off", "GOPATH": f"{top}:{GO_CODE}", "GOCACHE": os.path.join(archive.root, "cache"), "home": home, **c_library.LEAN_GO}
-    given(top, "main.go", TWO_PACKAGES)
+    write_given(top, "main.go", TWO_PACKAGES)
     well(count, "a program over that folder", by_user(top, "go", "run", "main.go", **env), "4096\n")
-    given(top, "main.go", page.replace('"kitchenrue.example/serf"', '"github.com/hashicorp/serf/serf"'))
+    write_given(top, "main.go", page.replace('"kitchenrue.example/serf"', '"github.com/hashicorp/serf/serf"'))
     well(count, "the program of docs/GO.md over that folder", by_user(top, "go", "build", "-o", "web1", "main.go", **env), "")
 
 
@@ -427,7 +353,7 @@ def installed(count, archive):
     schedule, trace = (archive.path("examples", f"deploy_gossiped_twice.{ending}") for ending in ("schedule", "trace"))
     with open(trace, encoding="utf-8") as file:
         well(count, "the program that was installed", by_user(home, os.path.join(prefix, "bin", "serf-replay"), "replay", schedule), file.read())
-    refused(count, "an installation on another machine", by_user(home, *ELSEWHERE, archive.path("install"), prefix), "^install: the program is for Linux on x86-64, but this system is Linux i686$")
+    refused(count, "an installation on another machine", by_user(home, *ELSEWHERE, archive.path("install"), prefix), '^install: the program is for Linux on x86-64, but this system is Linux i686; docs/START.md, "On aarch64", says what runs there$')
     refused(count, "an installation into a folder that nobody may write", by_user(home, archive.path("install"), "/proc/none"), "^install: /proc/none can't be written; name another folder$")
     refused(count, "an installation without a folder", by_user(home, archive.path("install")), r"^usage: \./install PREFIX")
     refused(count, "an installation of a clone", by_user(home, os.path.join(TOP, "install"), prefix) if os.access(TOP, os.X_OK) else (1, ""), "^install: this folder isn't a release")
@@ -435,7 +361,7 @@ def installed(count, archive):
     copy = archive.copy(home, "install")
     os.makedirs(os.path.join(home, "bin"))
     aged_program(archive, os.path.join(home, "bin", "serf-replay"))
-    refused(count, "a program on an old C library", by_user(home, "sh", copy, prefix), "^install: the C library of this system is older than the one that the program was linked with: ")
+    refused(count, "a program on an old C library", by_user(home, "sh", copy, prefix), "^install: the C library of this system is older than the one that the program was linked with; install on Debian 12 or ")
 
 
 def without_make(count, archive, home):
@@ -464,12 +390,12 @@ def page(count, archive):
         wanted = re.findall(r"^[^#\n]*\S  # (.*)$", re.sub(r"<<'END'\n.*?^END$", "", script, flags=re.M | re.S), re.M)
         more = {"PATH": f"{os.path.dirname(os.path.realpath(sys.executable))}:{os.environ['PATH']}", "GOFLAGS": "-mod=mod", "GOPROXY": "off", "GOCACHE": os.path.join(archive.root, "cache")}
         began = time.monotonic()
-        status, said = by_user(home, "sh", "-ec", script, **more)
+        status, output = by_user(home, "sh", "-ec", script, **more)
         at = -1
         for line in wanted:
-            at = said.find(line + "\n", at + 1)
-            count.check(f"{title}: it prints {line!r}", at >= 0, said[-1500:])
-        count.check(f"{title}: the commands on the page", status == 0, f"{status}: {said[-1500:]}")
+            at = output.find(line + "\n", at + 1)
+            count.check(f"{title}: it prints {line!r}", at >= 0, output[-1500:])
+        count.check(f"{title}: the commands on the page", status == 0, f"{status}: {output[-1500:]}")
         print(f"docs/START.md, {title}: {time.monotonic() - began:.1f} seconds")
 
 
@@ -481,7 +407,7 @@ def aged_program(archive, to):
         write(to, "#!/bin/sh\necho \"serf-replay: version \\`GLIBC_2.99' not found\" >&2\nexit 1\n")
 
 
-PARTS = {"files": files, "c": in_c, "python": in_python, "rust": in_rust, "go": in_go, "install": installed, "page": page}
+PARTS = {"files": files, "c": in_c, "python": in_python, "rust": in_rust, "source": in_source, "go": in_go, "install": installed, "page": page}
 
 
 def run(total, name, part, archive):
@@ -495,13 +421,13 @@ def run(total, name, part, archive):
 
 
 def main():
-    words = argparse.ArgumentParser(description=__doc__, formatter_class=argparse.RawDescriptionHelpFormatter)
-    words.add_argument("--library")
-    words.add_argument("--program", default=os.path.join(TOP, "crates", "serf_replay_program", "out", "serf_replay_program"))
-    words.add_argument("--only", choices=PARTS)
-    words.add_argument("--over-ci", action="store_true")
-    asked = words.parse_args()
-    fault = None if asked.library else c_library.fault_of_library(asked.over_ci)
+    parser = argparse.ArgumentParser(description=__doc__, formatter_class=argparse.RawDescriptionHelpFormatter)
+    parser.add_argument("--library")
+    parser.add_argument("--program", default=os.path.join(TOP, "crates", "serf_replay_program", "out", "serf_replay_program"))
+    parser.add_argument("--only", choices=PARTS)
+    parser.add_argument("--over-ci", action="store_true")
+    options = parser.parse_args()
+    fault = None if options.library else c_library.fault_of_library(options.over_ci)
     if fault:
         print(f"{fault}\n0 passed, 1 failed")
         return 1
@@ -510,9 +436,9 @@ def main():
     total, root = checks.Checks(), tempfile.mkdtemp(prefix="packages-")
     os.chmod(root, 0o755)
     try:
-        archive = Archive(root, os.path.abspath(asked.library or c_library.LIBRARY), os.path.abspath(asked.program))
+        archive = Archive(root, os.path.abspath(options.library or c_library.LIBRARY), os.path.abspath(options.program))
         for name, part in PARTS.items():
-            if asked.only in (None, name):
+            if options.only in (None, name):
                 run(total, name, part, archive)
     finally:
         shutil.rmtree(root, ignore_errors=True)

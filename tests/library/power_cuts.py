@@ -69,7 +69,7 @@ OPENED = 40
 FAULTY_BEGINNINGS = {"opened_text": "a file that was never synced", "opened_filler": "a file with filler"}
 
 # The minimum number of cuts that have to be tried for each store and level.
-LEAST = {"a": 150, "b": 150, "c": 100, "d": 150, "e": 1500}
+MINIMUMS = {"a": 150, "b": 150, "c": 100, "d": 150, "e": 1500}
 
 
 class Count(checks.Checks):
@@ -189,8 +189,8 @@ class Trial:
         self.count.check(f"{self.store.name}: bursts without an error", run.faults() == 0, run.answered)
         flushes = run.syncs_of_lines()
         # (a burst for which there is too little filler also flushes the end of the file)
-        most = 2 if self.store.has_filler else 1
-        self.count.check(f"{self.store.name}: one flush of each burst", max(flushes) <= most and sum(flushes) > 5, flushes)
+        maximum = 2 if self.store.has_filler else 1
+        self.count.check(f"{self.store.name}: one flush of each burst", max(flushes) <= maximum and sum(flushes) > 5, flushes)
         self.of_life("bursts", run, drawn)
         syncs = [words for name, places in run.failing_places().items() if name == "fdatasync" for words in places]
         ran = self.run(lines, "a file", failing=drawn.choice(syncs))
@@ -303,12 +303,12 @@ class Trial:
         self.of_keeping()
         if self.store.tracks_handlers:
             self.of_tracking()
-        for level, least in LEAST.items():
+        for level, minimum in MINIMUMS.items():
             if level == "e" and not self.store.tracks_handlers:
                 continue
             looked = self.count.cuts[self.store.name, level]
             self.count.check(
-                f"{self.store.name}, level {level}: enough cuts", looked >= least, f"{looked}, and {least} are needed"
+                f"{self.store.name}, level {level}: enough cuts", looked >= minimum, f"{looked}, and {minimum} are needed"
             )
         self.plants()
 
@@ -342,7 +342,7 @@ def spent():
 def table(count):
     print("cuts            a       b       c       d       e   texts opened again")
     for name in hosts.STORES:
-        looked = [count.cuts.get((name, level), 0) for level in LEAST]
+        looked = [count.cuts.get((name, level), 0) for level in MINIMUMS]
         if any(looked):
             print(f"{name:<10}" + "".join(f"{it:>8,}" for it in looked) + f"{count.opened[name]:>8,}")
     print(f"{sum(count.cuts.values()):,} cuts")
@@ -352,25 +352,25 @@ def table(count):
 
 
 def main():
-    words = argparse.ArgumentParser(description=__doc__, formatter_class=argparse.RawDescriptionHelpFormatter)
-    words.add_argument("--seed", type=int, default=1)
-    words.add_argument("--only", choices=hosts.STORES, action="append")
-    words.add_argument("--library")
-    words.add_argument("--over-ci", action="store_true")
-    asked = words.parse_args()
+    parser = argparse.ArgumentParser(description=__doc__, formatter_class=argparse.RawDescriptionHelpFormatter)
+    parser.add_argument("--seed", type=int, default=1)
+    parser.add_argument("--only", choices=hosts.STORES, action="append")
+    parser.add_argument("--library")
+    parser.add_argument("--over-ci", action="store_true")
+    options = parser.parse_args()
     count = Count()
     simulated.try_all(count)
     fault = None if shutil.which("strace") else "strace isn't on PATH, and nothing can be traced without it"
-    if not fault and not asked.library:
-        fault = c_library.fault_of_library(asked.over_ci)
+    if not fault and not options.library:
+        fault = c_library.fault_of_library(options.over_ci)
     if fault:
         count.check("everything that it needs is installed", False, fault)
         return count.finish()
     room = MEMORY if os.access(MEMORY, os.W_OK) else None
     with tempfile.TemporaryDirectory(prefix="power-cuts-") as folder:
-        places = hosts.Places(folder, os.path.abspath(asked.library or c_library.LIBRARY))
-        for name in asked.only or hosts.STORES:
-            try_store(count, name, places, asked.seed, room)
+        places = hosts.Places(folder, os.path.abspath(options.library or c_library.LIBRARY))
+        for name in options.only or hosts.STORES:
+            try_store(count, name, places, options.seed, room)
     table(count)
     return count.finish()
 

@@ -53,7 +53,7 @@ COMMANDED, READ = 100, 95
 LIMIT = 900
 
 # The minimum number of facts that the driver prints.
-LEAST_FACTS = 600
+MIN_FACTS = 600
 
 # What is false for a stock agent, as expected. All other facts that can hold do.
 FALSE = (
@@ -69,7 +69,7 @@ PAUSES = (0.1, 0.4, 1.6, 0.1, 0.4, 5, 0.2, 0.4, 15, 0.3)
 FIRST_PAUSE = {"TestRPCClientForceLeave": 5, "TestRPCClientForceLeave_prune": 5, "TestRPCClientStream_Member": 1.6}
 
 # The minimum number of tests of the client and of the commands.
-LEAST_TESTS, LEAST_OF_COMMANDS = 19, 43
+MIN_TESTS, MIN_COMMANDS = 19, 43
 
 # The token that an agent requires from its clients, if a test is about that.
 TOKENS = {"TestRPCClientAuth": "foobar"}
@@ -105,7 +105,7 @@ DIFFERENT = (
 
 def missing():
     """What is missing of what is needed, or None."""
-    found = [name for name in [kit.needed()] if name]
+    found = [name for name in [kit.missing_command()] if name]
     if not os.path.isfile(os.path.join(kit.GOCODE, SERF, "client", "rpc_client.go")):
         found.append("sources of Serf's client")
     return ", ".join(found) or None
@@ -134,9 +134,9 @@ def built(folder):
     programs, tests = [os.path.join(folder, name) for name in ("driver", "tests", "commands")], ["test", "-c", "-vet=off"]
     packages = ("kitchenrue.example/rpc_client/driver", "kitchenrue.example/rpc_client/agent", f"{SERF.removeprefix('src/')}/cmd/serf/command")
     for words, program, of in zip((["build"], tests, tests), programs, packages):
-        status, said = c_library.ran(["go", *words, "-p", "1", "-o", program, of], env=env)
+        status, output = c_library.ran(["go", *words, "-p", "1", "-o", program, of], env=env)
         if status:
-            return programs, said[-2000:]
+            return programs, output[-2000:]
     return programs, None
 
 
@@ -149,8 +149,8 @@ def agent_of(count, asked, folder):
     program = os.path.join(folder, "kitchenrue-agent")
     library = os.path.dirname(os.path.abspath(asked.library or c_library.LIBRARY))
     if fault is None:
-        status, said = c_library.ran([os.path.join(TOP, "agent", "build"), program, library], env={**os.environ, **c_library.LEAN_GO})
-        count.check("agent/build", status == 0, said[-2000:])
+        status, output = c_library.ran([os.path.join(TOP, "agent", "build"), program, library], env={**os.environ, **c_library.LEAN_GO})
+        count.check("agent/build", status == 0, output[-2000:])
     return program
 
 
@@ -171,13 +171,13 @@ class Side:
 def ended(words, **more):
     """A program's status, its output and its errors, or that it took too long."""
     try:
-        done = subprocess.run(words, stdin=subprocess.DEVNULL, capture_output=True, text=True, errors="replace", timeout=LIMIT, **more)
+        result = subprocess.run(words, stdin=subprocess.DEVNULL, capture_output=True, text=True, errors="replace", timeout=LIMIT, **more)
     except subprocess.TimeoutExpired:
         return "it took too long", "", ""
-    return done.returncode, done.stdout, done.stderr[-2000:]
+    return result.returncode, result.stdout, result.stderr[-2000:]
 
 
-def driven(side, driver):
+def run_driver(side, driver):
     """What the driver prints for a side."""
     return ended([driver, side.net, str(side.first), side.folder, *side.words])
 
@@ -209,7 +209,7 @@ def check_driven(count, said):
         lines = text.splitlines()
         count.check(f"each fact has its own name, {kind}", len(facts(text)) == len(lines), len(lines) - len(facts(text)))
     stock = facts(said[STOCK][1])
-    count.check("there are as many facts as ever", len(stock) >= LEAST_FACTS, len(stock))
+    count.check("there are as many facts as ever", len(stock) >= MIN_FACTS, len(stock))
     wrong = [name for name, value in stock.items() if "never came" in value or value == "false" and name not in FALSE]
     count.check("all that the driver waits for happens with a stock agent", not wrong, wrong)
     compare(count, stock, facts(said[OURS][1]))
@@ -251,10 +251,10 @@ def commanded(side, tests, names):
     return {name: tried(side, tests, name, COMMANDED, PAUSES) for name in names}
 
 
-def check_tested(count, names, least, ended_so):
+def check_tested(count, names, minimum, ended_so):
     """Checks how Serf's tests ended."""
-    count.check(f"Serf's tests exist, such as {names[:1]}", len(names) >= least, names)
-    for name, why in {**NOT_TRIED, **FAILING}.items() if least == LEAST_TESTS else ():
+    count.check(f"Serf's tests exist, such as {names[:1]}", len(names) >= minimum, names)
+    for name, why in {**NOT_TRIED, **FAILING}.items() if minimum == MIN_TESTS else ():
         count.check(f"{name} exists ({why})", name in names, names)
     for kind, found in ended_so.items():
         for name, (passed, said) in found.items():
@@ -305,23 +305,23 @@ def run(count, asked, folder):
     if python is None:
         print("not run: a reader in Python, since no python3 here has msgpack")
     with ThreadPoolExecutor(6) as pool:
-        drives = {side.kind: pool.submit(driven, side, driver) for side in sides}
+        drives = {side.kind: pool.submit(run_driver, side, driver) for side in sides}
         runs = {side.kind: pool.submit(tested, side, tests, names) for side in sides}
         calls = {side.kind: pool.submit(commanded, side, commands, of_commands) for side in sides}
         reads = {side.kind: pool.submit(read, side, python) for side in sides} if python else {}
     check_driven(count, {kind: one.result() for kind, one in drives.items()})
-    check_tested(count, names, LEAST_TESTS, {kind: one.result() for kind, one in runs.items()})
-    check_tested(count, of_commands, LEAST_OF_COMMANDS, {kind: one.result() for kind, one in calls.items()})
+    check_tested(count, names, MIN_TESTS, {kind: one.result() for kind, one in runs.items()})
+    check_tested(count, of_commands, MIN_COMMANDS, {kind: one.result() for kind, one in calls.items()})
     if python:
         check_read(count, sides, {kind: one.result() for kind, one in reads.items()})
 
 
 def main():
-    words = argparse.ArgumentParser(description=__doc__, formatter_class=argparse.RawDescriptionHelpFormatter)
-    words.add_argument("--library")
-    words.add_argument("--over-ci", action="store_true")
-    words.add_argument("--agent")
-    asked = words.parse_args()
+    parser = argparse.ArgumentParser(description=__doc__, formatter_class=argparse.RawDescriptionHelpFormatter)
+    parser.add_argument("--library")
+    parser.add_argument("--over-ci", action="store_true")
+    parser.add_argument("--agent")
+    options = parser.parse_args()
     count = checks.Checks()
     lacks = missing()
     if lacks:
@@ -330,7 +330,7 @@ def main():
     unformatted = c_library.ran(["gofmt", "-l", OWN])[1]
     count.check("the programs in Go are formatted", not unformatted, unformatted)
     with tempfile.TemporaryDirectory(prefix="rpc-client-", ignore_cleanup_errors=True) as folder:
-        run(count, asked, folder)
+        run(count, options, folder)
     return count.finish()
 
 

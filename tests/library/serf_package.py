@@ -182,13 +182,13 @@ def without(text, lines):
     return "".join(kept)
 
 
-def compiled(env, folder, package, program, *more):
+def compile_tests(env, folder, package, program, *more):
     """Compiles a package's tests: what went wrong, by file, as lines."""
-    status, said = c_library.ran(["go", "test", "-c", "-vet=off", *more, "-o", program, package], env=env, cwd=folder)
+    status, output = c_library.ran(["go", "test", "-c", "-vet=off", *more, "-o", program, package], env=env, cwd=folder)
     found = {}
-    for name, line in re.findall(r"(?:^|/)(\w+_test\.go):(\d+):\d+: ", said, re.M):
+    for name, line in re.findall(r"(?:^|/)(\w+_test\.go):(\d+):\d+: ", output, re.M):
         found.setdefault(name, set()).add(int(line))
-    return status, found, said
+    return status, found, output
 
 
 def tests_of_package(count, env, folder):
@@ -198,7 +198,7 @@ def tests_of_package(count, env, folder):
         with open(os.path.join(place, os.path.basename(path)), "w", encoding="utf-8") as file:
             file.write(WAIT.sub(r"\1testutil.Yield(); \2", checks.text_of(path)))
     for _ in range(40):
-        status, wrong, said = compiled(env, place, f"{PATH}/serf", program, "-gcflags=-e")
+        status, wrong, said = compile_tests(env, place, f"{PATH}/serf", program, "-gcflags=-e")
         if status == 0:
             return program
         if not wrong:
@@ -367,10 +367,10 @@ def check_full_disk(count, program, folder, net, peer):
         status = "it continues"
     node.end()
     with os.fdopen(reads, encoding="utf-8", errors="replace") as file:
-        said = file.read()
+        output = file.read()
     count.check("cmd/serf over ours ends on a full disk", status == 0, status)
-    last = [line for line in said.splitlines() if "[ERR] serf: the node has ended: " in line and "the disk is full" in line]
-    count.check("and its log says why", len(last) == 1, said)
+    last = [line for line in output.splitlines() if "[ERR] serf: the node has ended: " in line and "the disk is full" in line]
+    count.check("and its log says why", len(last) == 1, output)
     members = [program, "members", "-status=failed", "-name=full", f"-rpc-addr={peer.address}:7373"]
     count.check("and the other sees that it failed", until(lambda: "full" in c_library.ran(members)[1]), c_library.ran(members))
 
@@ -389,7 +389,7 @@ def built(count, env, folder):
     count.check("cmd/serf is compiled", status == 0, said[-1500:])
     for name in ("agent", "command"):
         program = os.path.join(folder, f"{name}.test")
-        status, _, said = compiled(env, folder, f"{PATH}/{PLACES[name][0]}", program)
+        status, _, said = compile_tests(env, folder, f"{PATH}/{PLACES[name][0]}", program)
         count.check(f"the tests of {PLACES[name][0]} are compiled", status == 0, said[-1500:])
         programs[name] = program
     programs["serf"] = tests_of_package(count, env, folder)
@@ -414,20 +414,20 @@ def run(count, asked, folder):
 
 
 def main():
-    words = argparse.ArgumentParser(description=__doc__, formatter_class=argparse.RawDescriptionHelpFormatter)
-    words.add_argument("--library")
-    words.add_argument("--over-ci", action="store_true")
-    words.add_argument("--kills", type=int, default=30)
-    asked = words.parse_args()
+    parser = argparse.ArgumentParser(description=__doc__, formatter_class=argparse.RawDescriptionHelpFormatter)
+    parser.add_argument("--library")
+    parser.add_argument("--over-ci", action="store_true")
+    parser.add_argument("--kills", type=int, default=30)
+    options = parser.parse_args()
     count = checks.Checks()
     if shutil.which("go") is None or not os.path.isdir(os.path.join(GOCODE, SERF, "cmd")):
         print("not run: Serf's own tests over the package serf, since Go or Serf's sources are missing")
         return count.finish()
-    fault = None if asked.library else c_library.fault_of_library(asked.over_ci)
+    fault = None if options.library else c_library.fault_of_library(options.over_ci)
     count.check("the library is built", fault is None, fault)
     if fault is None:
         with tempfile.TemporaryDirectory(prefix="serf-package-", ignore_cleanup_errors=True) as folder:
-            run(count, asked, folder)
+            run(count, options, folder)
     return count.finish()
 
 

@@ -99,12 +99,12 @@ class Simulator:
         os.close(handle)
         crash = ""
         try:
-            ran = subprocess.run(
+            result = subprocess.run(
                 [self.program, "-seed", str(seed), "-out", out, *words], env=self.env, stdin=subprocess.DEVNULL,
                 stdout=subprocess.DEVNULL, stderr=subprocess.PIPE, timeout=LIMIT, preexec_fn=limit_processor,
             )
-            if ran.returncode not in (0, 1):
-                crash = f"the program ended with status {ran.returncode}: {without_headers(ran.stderr)}"
+            if result.returncode not in (0, 1):
+                crash = f"the program ended with status {result.returncode}: {without_headers(result.stderr)}"
         except subprocess.TimeoutExpired:
             crash = f"the program ran for more than {LIMIT} seconds"
         with open(out, encoding="utf-8", errors="replace") as file:
@@ -285,37 +285,37 @@ def play(count, simulator, asked):
 
 
 def main():
-    words = argparse.ArgumentParser(description=__doc__, formatter_class=argparse.RawDescriptionHelpFormatter)
-    words.add_argument("--library")
-    words.add_argument("--over-ci", action="store_true")
-    words.add_argument("--seed", type=int)
-    words.add_argument("--log")
-    words.add_argument("--nodes", type=int)
-    words.add_argument("--length", default=LENGTH)
-    words.add_argument("--new", type=int, default=NEW)
-    words.add_argument("--planted", choices=planted.FAULTS)
-    words.add_argument("--all", action="store_true")
-    words.add_argument("--hours", type=float)
-    words.add_argument("--jobs", type=int, default=jobs())
-    asked = words.parse_args()
+    parser = argparse.ArgumentParser(description=__doc__, formatter_class=argparse.RawDescriptionHelpFormatter)
+    parser.add_argument("--library")
+    parser.add_argument("--over-ci", action="store_true")
+    parser.add_argument("--seed", type=int)
+    parser.add_argument("--log")
+    parser.add_argument("--nodes", type=int)
+    parser.add_argument("--length", default=LENGTH)
+    parser.add_argument("--new", type=int, default=NEW)
+    parser.add_argument("--planted", choices=planted.FAULTS)
+    parser.add_argument("--all", action="store_true")
+    parser.add_argument("--hours", type=float)
+    parser.add_argument("--jobs", type=int, default=jobs())
+    options = parser.parse_args()
     count = checks.Checks()
     lacks = missing()
     if lacks:
         print(f"not run: {lacks}")
         return count.finish()
-    fault = None if asked.library else c_library.fault_of_library(asked.over_ci)
+    fault = None if options.library else c_library.fault_of_library(options.over_ci)
     if fault:
         count.check("the library is built", False, fault)
         return count.finish()
     with tempfile.TemporaryDirectory(prefix="simulation-") as folder:
         try:
-            program, fault = build.build(folder, os.path.abspath(asked.library or c_library.LIBRARY))
+            program, fault = build.build(folder, os.path.abspath(options.library or c_library.LIBRARY))
         except runtime_edits.OtherRelease as other:
             print(f"not run: {other}")
             return count.finish()
         count.check("the simulation is built", not fault, fault)
         if not fault:
-            play(count, Simulator(folder, program), asked)
+            play(count, Simulator(folder, program), options)
     return count.finish()
 
 

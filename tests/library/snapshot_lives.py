@@ -6,7 +6,10 @@ begins with what was confirmed in the lives before, up to other lines (docs/HOST
 A copy of the library records, at its calls, on which text each session opens, which of the library's bytes the host confirms, and which
 text a compaction will replace the file with (snapshot_lives/recorder.c). The tests of the package `serf` and those of the agent run
 over it, and so do nodes that are killed by SIGKILL while they fire events. Then the script holds all records against the premise
-(snapshot_lives/premise.py, which cites the definitions). It fails if there are fewer lives and openings than LEAST says.
+(snapshot_lives/premise.py, which cites the definitions). It fails if there are fewer lives and openings than MINIMUMS says.
+
+Two readers also have to report the same open events for each text of these tests, and for each of them cut at random bytes: the library's,
+and the second one of tests/library/handler_lines.py. The nodes that are killed write no lines about handlers.
 
 Then it runs wrong hosts, which are planted into the copy of the sources (snapshot_lives/wrong, planted as tests/library/go_mutants.py
 does): the records of the tests that each names have to break the premise. With names, only these wrong hosts are run, and nothing else.
@@ -38,9 +41,11 @@ from checks import TOP
 OWN = os.path.join(TOP, "tests", "library", "snapshot_lives")
 sys.path[:0] = [os.path.join(TOP, "tests", "library"), os.path.join(TOP, "tests", "library", "go_mutants"), OWN]
 import go_mutants
+import handler_lines
 import kept_cluster
 import planting
 import premise
+import snapshot_texts
 
 # The calls that are recorded.
 RECORDED = ("open", "close", "flushed", "compact")
@@ -54,7 +59,7 @@ NAMED = MADE + "\trecordPath(agent, store)\n"
 
 # The minimum of each part: lives, openings that follow a life that confirmed bytes, texts with other lines between these, compactions, and
 # openings after a life that ended during a compaction.
-LEAST = {
+MINIMUMS = {
     "serf": {"lives": 100, "telling": 15, "with_others": 5, "replaced": 40, "under_way": 0},
     "agent/internal/app": {"lives": 30, "telling": 5, "with_others": 4, "replaced": 0, "under_way": 0},
     "killed alone": {"lives": 50, "telling": 35, "with_others": 30, "replaced": 6, "under_way": 6},
@@ -64,6 +69,10 @@ LEAST = {
 # How often the node of each file is killed, how many events it is sent by then at most, how long it runs at most if it is killed at a
 # random moment, in seconds, and how large a file is made that the node compacts at its start.
 KILLS, SENT, SOON, LARGE = 20, 40, 0.08, 160 << 10
+
+# At how many bytes each text is cut for the readers of lines about handlers, and the minimum number of texts with these lines.
+CUTS = 20
+LEAST_READ = {"serf": 1000, "agent/internal/app": 50}
 
 
 def recording_library(folder, library):
@@ -76,9 +85,9 @@ def recording_library(folder, library):
         ["objcopy", *names, library, own],
         ["ar", "r", own, recorder],
     ):
-        status, said = c_library.ran(words)
+        status, output = c_library.ran(words)
         if status:
-            return said[-2000:] or f"{words[0]} failed"
+            return output[-2000:] or f"{words[0]} failed"
     return None
 
 
@@ -101,8 +110,8 @@ class Place(go_mutants.Place):
     def fault_of_node(self):
         """Builds the program of a node. Returns what went wrong, or None."""
         words = ["go", "build", "-tags", "faults", "-o", self.program("node"), "kitchenrue.example/beside_serf/node"]
-        status, said = c_library.ran(words, env=self.env)
-        return said or "go build failed" if status else None
+        status, output = c_library.ran(words, env=self.env)
+        return output or "go build failed" if status else None
 
     def records(self, name):
         """A new folder for records."""
@@ -114,8 +123,8 @@ class Place(go_mutants.Place):
         """Runs tests of a package. Returns which failed, and the records held against the premise."""
         folder, words = self.records(name), [self.program(package), "-test.v", "-test.timeout", "8m", "-test.run", tests]
         env = {**os.environ, planting.VARIABLE: planted, "KITCHENRUE_LIVES": folder, "GOMAXPROCS": "2"}
-        status, said = c_library.ran(words, cwd=os.path.join(self.source, package), env=env)
-        failed = re.findall(r"^--- FAIL: (\w+)", said, re.M) or re.findall(r"^=== RUN   (\w+)$", said, re.M)[-1:] if status else []
+        status, output = c_library.ran(words, cwd=os.path.join(self.source, package), env=env)
+        failed = re.findall(r"^--- FAIL: (\w+)", output, re.M) or re.findall(r"^=== RUN   (\w+)$", output, re.M)[-1:] if status else []
         held = premise.Held(folder)
         shutil.rmtree(folder)
         return failed, held
@@ -130,7 +139,7 @@ def check_definitions(count):
     own = ["clock: 1", "clock: 01", "event-clock: 18446744073709551614", "query-clock: 7", "#least clock: 1", "#query 1 0"]
     own += ["#query 1 4294967295", "#least query-clock: 18446744073709551616", "#event 1 61 62", "#event 01 6A ", "#event 1  "]
     for line in other + own:
-        count.check(f"whether {line!r} is another line", premise.is_other(line.encode()) == (line in other))
+        count.check(f"whether {line!r} is another line", snapshot_texts.is_other(line.encode()) == (line in other))
     for confirmed, text, begins in (
         ("", "", True), ("", "anything", True), ("clock: 1\n", "clock: 1\n", True), ("clock: 1\n", "alive: a 1:1\nclock: 1\nclo", True),
         ("clock: 1\n", "alive: a 1:1clock: 1\n", False), ("clock: 1\n", "clock: 1", False), ("clock: 1\n", "clock: 01\n", False),
@@ -139,16 +148,32 @@ def check_definitions(count):
         ("clock: 1\n#x\n", "#y\nclock: 1\n", True), ("clock: 1\nclo", "clock: 1\nclo", True), ("clock: 1\nclo", "clock: 1\n", False),
         ("clock: 1\nclo", "clock: 1\n#x\nclock: 2\n", True), ("clock: 1\nclo", "clock: 1\n#query 1 1\nclo", False),
     ):
-        fault = premise.begins_with(text.encode(), confirmed.encode())
+        fault = snapshot_texts.begins_with(text.encode(), confirmed.encode())
         count.check(f"whether {text!r} begins with {confirmed!r}", (fault is None) == begins, fault)
 
 
 def check_held(count, part, held):
     """The records of a part hold against the premise, and there are enough of each kind."""
     print(f"{part}: {held.said()}", flush=True)
-    for name, least in LEAST[part].items():
-        count.check(f"{part}: {name}, at least {least}", getattr(held, name) >= least, held.said())
+    for name, minimum in MINIMUMS[part].items():
+        count.check(f"{part}: {name}, at least {minimum}", getattr(held, name) >= minimum, held.said())
     count.check(f"{part}: each text begins with what was confirmed", not held.faults, held.faults)
+
+
+def check_readers(count, part, texts, reader):
+    """Two readers of the lines about handlers agree on these texts, and on each of them cut at some bytes."""
+    draw, compared, open_events = random.Random(part), 0, 0
+    wrong = []
+    for text in sorted(texts):
+        cuts = [draw.randrange(len(text) + 1) for _ in range(CUTS if len(text) < LARGE // 4 else 1)]
+        for place in (len(text), *cuts):
+            found, second = reader.open_events(text[:place]), handler_lines.handlers.open_events(text[:place])
+            compared, open_events = compared + (found is not None), open_events + len(found or ())
+            if found != second:
+                wrong.append(f"{text[:place]!r}: the library {found}, the reader in Python {second}")
+    print(f"{part}: {compared:,} texts say {open_events:,} times that an event is open; the readers disagree on {len(wrong)}", flush=True)
+    count.check(f"{part}: texts that say something of handlers, at least {LEAST_READ[part]}", compared >= LEAST_READ[part], compared)
+    count.check(f"{part}: both readers report the same open events", not wrong, wrong[:1])
 
 
 def killed_alone(place, folder, kills):
@@ -240,6 +265,10 @@ def run(count, library, words):
         if words.names:
             try_hosts(count, place, [host for host in hosts if host.name in words.names])
             return
+        reader, fault = handler_lines.library_in(folder, library)
+        count.check("the library is built for Python", fault is None, fault)
+        if fault:
+            return
         # (most of the time these tests wait)
         with ThreadPoolExecutor(len(PACKAGES)) as lanes:
             tested = list(lanes.map(lambda package: place.tested(package, package), PACKAGES))
@@ -247,6 +276,7 @@ def run(count, library, words):
             if failed:
                 print(f"{package}: these tests failed, which tests/library/agent.py judges: {', '.join(failed)}", flush=True)
             check_held(count, package, held)
+            check_readers(count, package, held.texts, reader)
         for part, kill in (("killed alone", killed_alone), ("killed in a cluster", killed_in_cluster)):
             records = place.records(part)
             kill(place, records, words.kills)

@@ -71,10 +71,10 @@ class Places:
         return path
 
 
-def built(words, **more):
-    status, said = c_library.ran(words, **more)
+def build_or_raise(words, **more):
+    status, output = c_library.ran(words, **more)
     if status:
-        raise NotBuilt(f"{' '.join(words)[:200]}: {said[-1500:]}")
+        raise NotBuilt(f"{' '.join(words)[:200]}: {output[-1500:]}")
 
 
 def in_c(places):
@@ -82,7 +82,7 @@ def in_c(places):
     faults.edit(copy, languages.C)
     sources = [os.path.join(copy, name) for name in ("serf_agent_store.c", "serf_agent_heap.c")]
     cc = os.environ.get("CC", "cc")
-    built([cc, *c_library.STRICT, "-O1", "-o", path, os.path.join(EMBED, "store_driver.c"), *sources, places.library])
+    build_or_raise([cc, *c_library.STRICT, "-O1", "-o", path, os.path.join(EMBED, "store_driver.c"), *sources, places.library])
     return [path]
 
 
@@ -99,7 +99,7 @@ def in_go(places):
     faults.edit(module, languages.GO)
     c_library.put_beside(os.path.join(module, "serfagent"), places.library)
     env = dict(os.environ, GOFLAGS="-mod=mod", GOPROXY="off", GO111MODULE="on", **c_library.LEAN_GO)
-    built(["go", "build", "-o", path, "./store_driver"], cwd=module, env=env)
+    build_or_raise(["go", "build", "-o", path, "./store_driver"], cwd=module, env=env)
     return [path]
 
 
@@ -107,7 +107,7 @@ def in_rust(places):
     crate, target = places.copy("rust", "rust"), places.of("target")
     faults.edit(crate, languages.RUST)
     env = dict(os.environ, SERF_AGENT_LIBRARY=places.library, CARGO_TARGET_DIR=target)
-    built(["cargo", "build", "--quiet", "--offline", "--example", "store_driver"], cwd=crate, env=env)
+    build_or_raise(["cargo", "build", "--quiet", "--offline", "--example", "store_driver"], cwd=crate, env=env)
     return [os.path.join(target, "debug", "examples", "store_driver")]
 
 
@@ -186,21 +186,21 @@ def try_language(count, language, places):
 
 
 def main():
-    words = argparse.ArgumentParser(description=__doc__, formatter_class=argparse.RawDescriptionHelpFormatter)
-    words.add_argument("--only", choices=LANGUAGES, action="append")
-    words.add_argument("--library")
-    words.add_argument("--over-ci", action="store_true")
-    asked = words.parse_args()
+    parser = argparse.ArgumentParser(description=__doc__, formatter_class=argparse.RawDescriptionHelpFormatter)
+    parser.add_argument("--only", choices=LANGUAGES, action="append")
+    parser.add_argument("--library")
+    parser.add_argument("--over-ci", action="store_true")
+    options = parser.parse_args()
     count = checks.Checks()
     os.environ.pop(planted.FAULT_NAME, None)
     fault = None if shutil.which("strace") else "strace isn't on PATH, and no call can be made to fail without it"
-    if not fault and not asked.library:
-        fault = c_library.fault_of_library(asked.over_ci)
+    if not fault and not options.library:
+        fault = c_library.fault_of_library(options.over_ci)
     if fault:
         count.check("everything that it needs is installed", False, fault)
         return count.finish()
-    library = os.path.abspath(asked.library or c_library.LIBRARY)
-    for language in asked.only or LANGUAGES:
+    library = os.path.abspath(options.library or c_library.LIBRARY)
+    for language in options.only or LANGUAGES:
         with tempfile.TemporaryDirectory(prefix="store-faults-") as folder:
             os.chmod(folder, 0o755)
             try_language(count, language, Places(folder, library))

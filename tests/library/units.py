@@ -62,14 +62,14 @@ def outcomes(said):
 def units(count):
     with scratch.crate("units", USES) as source:
         scratch.copy_sources(UNITS, source)
-        status, said = scratch.tried(source)
-    ran = outcomes(said)
+        status, output = scratch.run_tests(source)
+    ran = outcomes(output)
     for name, (how, lines) in ran.items():
         count.check(name, how == "ok", "\n".join(lines))
     if len(ran) != written():
         count.check("each test of the sources ran", False, f"{len(ran)} tests ran, and the sources have {written()}")
     if status != 0 and not count.failed:
-        count.check("rt try", False, f"it ended with status {status}: {said[-1400:]}")
+        count.check("rt try", False, f"it ended with status {status}: {output[-1400:]}")
 
 
 if __name__ == "__main__":

@@ -64,7 +64,7 @@ def frames(count):
     texts = [random.Random(seed).randbytes(seed) * 3 for seed in range(0, 300, 37)]
     for text in texts:
         held = memberlist.map_at(packed(text), 1)[0][b"Buf"]
-        count.check(f"{len(text)} bytes by LZW", memberlist.unpacked(held) == text)
+        count.check(f"{len(text)} bytes by LZW", memberlist.decompress_lzw(held) == text)
 
 
 def files(count):
@@ -210,15 +210,15 @@ def story(count):
     count.check("it is the stored one", text == checks.text_of(FOLDER, "gossip.written"), text[:300])
     names = [line.split('"')[1] for line in text.splitlines() if line.startswith("agent ")]
     count.check("its nodes", names == ["alpha", "beta", "gamma"], names)
-    schedule = checks.ran(["write"], text.encode())
+    schedule = checks.run_program(["write"], text.encode())
     count.check("it is a written schedule", schedule[0] == 0 and not schedule[2], schedule)
-    trace = checks.ran(["replay"], schedule[1])[1].decode()
+    trace = checks.run_program(["replay"], schedule[1])[1].decode()
     ran = [line for line in checks.text_of(FOLDER, "handlers.log").splitlines() if line.startswith("event ")]
     got = list(handed(trace, names))
     count.check("each node is handed what its handler ran", sorted(got) == sorted(ran), (got, ran))
-    reasons = checks.ran(["explain", "--agent", "1"], schedule[1])[1].decode()
+    reasons = checks.run_program(["explain", "--agent", "1"], schedule[1])[1].decode()
     count.check("why beta lacks one", 'event 3 "reload" "n1": below the minimum time 4, unchanged since action 105' in reasons)
-    trace = checks.ran(["replay"], checks.ran(["write"], script(CAPTURE)[1].encode())[1])[1].decode()
+    trace = checks.run_program(["replay"], checks.run_program(["write"], script(CAPTURE)[1].encode())[1])[1].decode()
     count.check("without --down beta would have it", len(list(handed(trace, names))) == len(ran) + 1, trace[-300:])
 
 
@@ -247,11 +247,11 @@ def arrows(picture):
 def senders(count):
     """--senders: the arrows of a picture begin in the lanes of those that sent the packets; nothing else of it changes."""
     written = checks.text_of(FOLDER, "gossip.written")
-    schedule, sent = checks.ran(["write"], written.encode())[1], told(written)
+    schedule, sent = checks.run_program(["write"], written.encode())[1], told(written)
     own = [line.split(" ")[1] for line in written.splitlines() if line.endswith("its own")]
     count.check("who fired or asked", own == ['"alpha"', '"beta"', '"gamma"', '"alpha"'], own)
     for words in ([], ["--taken"], ["--event", "reload"], ["--from", "91", "--to", "100"], ["--from", "12", "--to", "13"]):
-        drawn = checks.ran(["draw", *words], schedule)[1].decode()
+        drawn = checks.run_program(["draw", *words], schedule)[1].decode()
         status, picture, said = script(CAPTURE, *DOWN, "--senders", given=drawn)
         name, wanted = f"senders {' '.join(words)}", {number: sent[number] for number in arrows(drawn) if number in sent}
         count.check(f"{name}: the arrows", status == 0 and wanted and arrows(picture) == wanted, (arrows(picture), wanted, said))
@@ -260,15 +260,15 @@ def senders(count):
         count.check(f"{name}: its texts", re.findall(texts, picture) == re.findall(texts, drawn), picture[-300:])
         count.check(f"{name}: its dots", set(re.findall(dots, picture)) >= set(re.findall(dots, drawn)), picture[-300:])
         count.check(f"{name}: no cross", "<path class='x' transform" not in picture, picture[-300:])
-    drawn = checks.ran(["draw", "--agent", "beta"], schedule)[1].decode()
+    drawn = checks.run_program(["draw", "--agent", "beta"], schedule)[1].decode()
     picture = script(CAPTURE, *DOWN, "--senders", given=drawn)[1]
     wanted = {number: ends for number, ends in arrows(drawn).items() if number in sent}
     count.check("senders without lanes", wanted and arrows(picture) == wanted and ">outside<" in picture, (arrows(picture), wanted))
     unnamed = capture([(5, udp(USER))]), "--node", f"beta={BETA}"
-    drawn = checks.ran(["draw"], checks.ran(["write"], read(*unnamed)[1].encode())[1])[1].decode()
+    drawn = checks.run_program(["draw"], checks.run_program(["write"], read(*unnamed)[1].encode())[1])[1].decode()
     picture = read(*unnamed, "--senders", given=drawn)[1]
     count.check("a sender without a name", arrows(picture) == {2: (-500, 500)} and ">outside<" in picture, picture)
-    mermaid = checks.ran(["draw", "--as", "mermaid"], schedule)[1].decode()
+    mermaid = checks.run_program(["draw", "--as", "mermaid"], schedule)[1].decode()
     others = [checks.text_of(checks.EXAMPLES, f"{one}.svg") for one in ("deploy_gossiped_twice", "what_is_refused", "partition/as_it_ran")]
     for number, other in enumerate(["", "serf", mermaid, *others]):
         got = script(CAPTURE, *DOWN, "--senders", given=other)
@@ -281,9 +281,9 @@ def shown(count):
         written = os.path.join(folder, "gossip.written")
         for command in pages.of(pages.CAPTURE):
             text = command.text.replace("> examples/capture/gossip.written", f"> {written}")
-            done = subprocess.run(["sh", "-ec", text], cwd=checks.TOP, capture_output=True, text=True, timeout=checks.LIMIT)
+            result = subprocess.run(["sh", "-ec", text], cwd=checks.TOP, capture_output=True, text=True, timeout=checks.LIMIT)
             same = os.path.exists(written) and checks.text_of(written) == checks.text_of(FOLDER, "gossip.written")
-            count.check(command.name(), done.returncode == 0 and same, done.stderr)
+            count.check(command.name(), result.returncode == 0 and same, result.stderr)
 
 
 def changed(count):

@@ -56,7 +56,7 @@ LEFT = (
 OTHERS = (b"\n", b"event b 5 d v\n", b"event-clock:7\n", b"\x7fELF\x00\xff\n" * 9, b"1 fired 1\n", b"# a log\n", b"#events\n", b"#\n", b"event cl#\n", b"x", b"event-clockx", b"event b 5 d v\ne")
 
 
-def said(clocks, words=b""):
+def clocks_output(clocks, words=b""):
     return b"".join(words + line % clock for line, clock in zip((b"clock %d\n", b"event-clock %d\n", b"query-clock %d\n"), clocks))
 
 
@@ -72,12 +72,12 @@ def largest(text):
 
 def snapshots(count):
     for text, clocks in SNAPSHOTS:
-        count.exactly(f"the snapshot {text[:100]}", ["clocks", "-"], 0, said(clocks), b"", text)
+        count.exactly(f"the snapshot {text[:100]}", ["clocks", "-"], 0, clocks_output(clocks), b"", text)
     for text, with_rejoin, without in LEFT:
-        out = said(with_rejoin) + said(without, b"without -rejoin: ")
+        out = clocks_output(with_rejoin) + clocks_output(without, b"without -rejoin: ")
         count.exactly(f"the snapshot {text}", ["clocks", "-"], 0, out, b"", text)
     for text, _, _ in (*LEFT, (b"event-clock: 7\nevent-clock: 4\n", 0, 0)):
-        count.exactly(f"for an agent of this project, {text}", ["clocks", "--own", "-"], 0, said(largest(text)), b"", text)
+        count.exactly(f"for an agent of this project, {text}", ["clocks", "--own", "-"], 0, clocks_output(largest(text)), b"", text)
     for text in OTHERS:
         count.exactly(f"no snapshot {text[:100]}", ["clocks", "-"], 1, b"", b"standard input: no line of a snapshot\n", text)
 

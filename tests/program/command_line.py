@@ -64,7 +64,7 @@ def statuses(count):
 
 def help_of(count, words):
     """What `--help` prints, and nothing else."""
-    status, out, err = checks.ran([*words, "--help"])
+    status, out, err = checks.run_program([*words, "--help"])
     count.check(" ".join([*words, "--help"]), status == 0 and out and not err, (status, out, err))
     return out.decode()
 
@@ -108,14 +108,14 @@ def manual_and_page(count):
         "the manual's examples", len(shown) == len(told) and all(f"\n    {line}\n" in page for line in shown), shown
     )
     if shutil.which("groff"):
-        ran = subprocess.run(
+        result = subprocess.run(
             ["groff", "-man", "-Tutf8", "-ww", MANUAL],
             cwd=TOP,
             stdin=subprocess.DEVNULL,
             capture_output=True,
             timeout=checks.LIMIT,
         )
-        count.check("groff reads the manual", ran.returncode == 0 and not ran.stderr, ran.stderr)
+        count.check("groff reads the manual", result.returncode == 0 and not result.stderr, result.stderr)
 
 
 def help_and_page(count):
@@ -140,11 +140,11 @@ def help_and_page(count):
 
 
 def refused(count):
-    status, out, err = checks.ran(["--version"])
+    status, out, err = checks.run_program(["--version"])
     count.check("--version", status == 0 and out and not err, (status, out, err))
     many = [[*words, "--agents", count] for words in (["random", "1"], ["conform", "--random", "1"]) for count in ("65", "1000000")]
     for words in ([], ["bogus"], ["replay", "a", "b"], ["decode", "a", "b"], ["clocks"], *many):
-        status, out, err = checks.ran(words)
+        status, out, err = checks.run_program(words)
         count.check("refused: " + " ".join(words), status == 2 and err and not out, (status, out, err))
 
 
@@ -152,13 +152,13 @@ def bad_words(count):
     """The program prints which values an option accepts."""
     for words, may in (
         (["draw", "--as", "png"], "--as accepts svg or mermaid"),
-        (["conform", "x", "--save", "y"], "--save accepts a file, and only with --shrink"),
+        (["conform", "x", "--save", "y"], "--save accepts a file, and only with --shrink, or with a schedule and --without"),
         (["conform", "x", "--go-on", "2"], "--go-on accepts a number, and only with --random and without --shrink"),
     ):
         told = (2, b"", f"error: {may}\n".encode())
         count.exactly("a bad word: " + " ".join(words), words, *told)
     for words in (["random", "1"], ["random", "1", "--agents", "0"]):
-        count.check("as many agents as the seed says: " + " ".join(words), checks.ran(words) == checks.ran(["random", "1"]))
+        count.check("as many agents as the seed says: " + " ".join(words), checks.run_program(words) == checks.run_program(["random", "1"]))
 
 
 def full_device(count):
@@ -171,8 +171,8 @@ def full_device(count):
     for words in (["replay"], ["decode", "06ff"], ["clocks", "-"], ["--help"], ["--version"], ["decode", "--help"]):
         command = [checks.PROGRAM, *words]
         with open("/dev/full", "wb") as full:
-            ran = subprocess.run(command, input=given.get(words[0], b""), stdout=full, stderr=subprocess.PIPE, timeout=checks.LIMIT)
-        count.check("a full device: " + " ".join(words), (ran.returncode, ran.stderr) == (3, b"write failed: No space left on device (os error 28)\n"), ran)
+            result = subprocess.run(command, input=given.get(words[0], b""), stdout=full, stderr=subprocess.PIPE, timeout=checks.LIMIT)
+        count.check("a full device: " + " ".join(words), (result.returncode, result.stderr) == (3, b"write failed: No space left on device (os error 28)\n"), result)
 
 
 def reader_that_went(count):
@@ -183,8 +183,8 @@ def reader_that_went(count):
         reader, writer = os.pipe()
         os.close(reader)
         with os.fdopen(writer, "wb") as gone:
-            ran = subprocess.run([checks.PROGRAM, *words], input=given.get(words[0], b""), stdout=gone, stderr=subprocess.PIPE, timeout=checks.LIMIT)
-        count.check("a reader that closed the pipe: " + " ".join(words), (ran.returncode, ran.stderr) == (3, b""), ran)
+            result = subprocess.run([checks.PROGRAM, *words], input=given.get(words[0], b""), stdout=gone, stderr=subprocess.PIPE, timeout=checks.LIMIT)
+        count.check("a reader that closed the pipe: " + " ".join(words), (result.returncode, result.stderr) == (3, b""), result)
 
 
 def main(words):

@@ -37,8 +37,8 @@ source "$1"
 
 def said_by(words, folder):
     """The lines that a shell prints, also the reason if it fails."""
-    ran = subprocess.run(words, cwd=folder, stdin=subprocess.DEVNULL, capture_output=True, text=True, timeout=checks.LIMIT)
-    return [line for line in (ran.stdout + ran.stderr).split("\n") if line]
+    result = subprocess.run(words, cwd=folder, stdin=subprocess.DEVNULL, capture_output=True, text=True, timeout=checks.LIMIT)
+    return [line for line in (result.stdout + result.stderr).split("\n") if line]
 
 
 def flags(command):

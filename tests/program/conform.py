@@ -8,6 +8,7 @@ docs/CONFORMANCE.md and docs/SPEC.md show of agents is compared with the real ou
 """
 
 import os
+import re
 import subprocess
 import sys
 
@@ -110,11 +111,40 @@ def by_meaning(cases):
         )
 
 
+# Two agents without any calls.
+TWO = "agent 62 4 4 512 8 keep\nagent 61 4 4 512 8 keep\n"
+
+
+def compared(cases):
+    """The end of a report says how many calls were compared. If they are only `open`, the status is 1."""
+    path, hollow = os.path.join(cases.folder, "compared.schedule"), "\nno call but open was compared\n"
+    good, fired = [sys.executable, PYTHON_AGENT], "fire 1 6465706c6f79 7631 0\n"
+    for actions, said, status in (
+        ("", "compared: 2 calls of 2 agents" + hollow, 1),
+        (fired, "compared: 3 calls of 2 agents\n", 0),
+        (fired + "state 0\n", "compared: 4 calls of 2 agents\n", 0),
+    ):
+        with open(path, "w") as file:
+            file.write(TWO + actions)
+        got = compare([path], good)
+        cases.count.check(f"compared: {actions!r}", got[0] == status and got[1].endswith(said), got)
+    with open(path, "w") as file:
+        file.write(TWO + fired)
+    replies = [b"unsupported\n\n", *text_of(turns_of(os.path.join(checks.EXAMPLES, "deploy_gossiped_twice"))[0])]
+    got = cases.told(replies, path, [])
+    cases.count.check("one of two agents is opened", got[0] == 0 and got[1].endswith("\ncompared: 2 calls of 2 agents\n"), got)
+    got = compare([os.path.join(checks.EXAMPLES, "deploy_gossiped_twice.schedule")], [*good, "--wrong", "never_seen"])
+    holds = got[0] == 1 and "\n  before: 2 calls agree\n" in got[1] and got[1].endswith("\ncompared: 5 calls of 2 agents\n")
+    cases.count.check("compared: a reply that differs", holds, got)
+    got = compare(["--random", "1-2", "--actions", "0"], good)
+    cases.count.check("compared: seeds without actions", got[0] == 1 and got[1].endswith(hollow), got)
+
+
 def ends_between_calls(cases):
     """An agent that accepts no more calls has ended by the next one, and the reports have that call."""
     schedule = os.path.join(checks.EXAMPLES, "deploy_gossiped_twice.schedule")
     agent = ["sh", "-c", r"read call; exec 0<&-; printf 'opened 1 1 1\n\n'; sleep 0.5"]
-    said = [": look\n", "  wanted: looked 1 1 1 1 1\n", "the agent ended\n"]
+    said = [": look\n", "  wanted: looked 1 1 1 1 1\n", "the agent ended\n", "\ncompared: 1 calls of 1 agents\n"]
     cases.run("it ends between two calls", agent, schedule, 3, ["agent 1", *said], ["--agent", "1"])
     cases.run("on a seed", agent, "--random", 3, ["seed 1: 0 seeds and 1 calls agree before\n", "agent 0", *said], ["1-3"])
     found = {"report": "ended", "seed": None, "agent": 1, "agreed": 1, "action": 0, "line": 0, "call": "look"}
@@ -153,19 +183,39 @@ def whole_reports(cases):
     cases.replies("a long line", [good[0], long.encode() + b"\n\n"], schedule, 1, [f"  got: {long}\n"], words)
 
 
+def reasons(cases):
+    """A report has the reasons that `explain` writes for the action, on a schedule and on a seed."""
+    saved = os.path.join(cases.folder, "explained.schedule")
+    for name, kind in (("never_seen", "mixed"), ("merge_takes_first_of_slot", "merges"), ("ack_counts_twice", "queries")):
+        status, said = compare(["--random", "1-60", "--kind", kind], [sys.executable, PYTHON_AGENT, "--wrong", name])
+        seed, agent, number = re.search(r"(?m)^seed (\d+): .*\nagent (\d+): action (\d+), ", said).groups()
+        with open(saved, "wb") as file:
+            file.write(checks.run_program(["random", seed, "--kind", kind])[1])
+        trace = checks.run_program(["explain", saved, "--agent", agent, "--from", number, "--to", number])[1].decode()
+        wanted = re.findall(rf"(?m)^{number} because (.*)$", trace)
+        found = re.findall(r"(?m)^  reason: (.*)$", said)
+        cases.count.check(f"the reasons of {name}", status == 1 and found == wanted and found, (said, trace))
+        again = compare([saved, "--agent", agent], [sys.executable, PYTHON_AGENT, "--wrong", name])[1]
+        cases.count.check(f"the reasons of {name}, of a file", re.findall(r"(?m)^  reason: (.*)$", again) == wanted, again)
+    example = os.path.join(checks.EXAMPLES, "deploy_gossiped_twice.schedule")
+    said = cases.told([b"opened 1 1 2\n\n"], example, ["--agent", "1"])[1]
+    cases.count.check("no reason of the opening", "  wanted: opened 1 1 1\n  got: opened 1 1 2\n" in said, said)
+
+
 def refused(cases):
     path = os.path.join(cases.folder, "bad.schedule")
     with open(path, "w") as file:
         file.write("agent 61 4 4 512 8 keep\nfire 0 61 - 2\n")
     cases.run("a bad line", ["cat"], path, 1, ["bad line 2 BadWord 5"])
-    ran = subprocess.run(
+    result = subprocess.run(
         [checks.PROGRAM, "conform", path], stdin=subprocess.DEVNULL, capture_output=True, timeout=LIMIT
     )
-    cases.count.check("nothing is written before that", ran.stdout == b"", ran.stdout)
+    cases.count.check("nothing is written before that", result.stdout == b"", result.stdout)
     cases.run("no file", ["cat"], os.path.join(cases.folder, "none"), 3, ["none: no such file"])
     with open(path, "w") as file:
         file.write("# no agents\n")
-    cases.run("no agents", ["cat"], path, 0, ["the schedule has no agents: nothing was compared\n"])
+    nothing = ["the schedule has no agents\n", "compared: 0 calls of 0 agents\nno call but open was compared\n"]
+    cases.run("no agents", ["cat"], path, 1, nothing)
     good = os.path.join(checks.EXAMPLES, "deploy_gossiped_twice.schedule")
     named = "error: --agent x: no agent of the schedule has this name, as it is or in hex\n"
     cases.run("a bad agent", ["cat"], good, 2, [named], ["--agent", "x"])
@@ -227,8 +277,8 @@ def rules(cases):
     path = os.path.join(checks.EXAMPLES, "a_disk_that_fails_in_a_merge")
     turns = turns_of(path)
     replies = text_of(turns[1])
-    said = ["agent 1: 1 calls agree; action 5 rests on an own rule"]
-    cases.replies("Serf's rules", replies, path + ".schedule", 0, said, ["--agent", "1", "--rules", "serf"])
+    said = ["agent 1: 1 calls agree; action 5 rests on an own rule", "\nno call but open was compared\n"]
+    cases.replies("Serf's rules", replies, path + ".schedule", 1, said, ["--agent", "1", "--rules", "serf"])
     said = [f"agent 1: {len(turns[1])} calls agree"]
     cases.replies("all rules", replies, path + ".schedule", 0, said, ["--agent", "1", "--rules", "own"])
 
@@ -268,8 +318,8 @@ def limits(cases):
     for said, call in OPENED.items():
         with open(path, "w") as file:
             file.write(f"agent 61 {said}\n")
-        ran = subprocess.run([checks.PROGRAM, "conform", path], stdin=subprocess.DEVNULL, capture_output=True, timeout=LIMIT)
-        cases.count.check(f"{said} is opened", ran.stdout == f"open 61 {call} -\n".encode(), ran)
+        result = subprocess.run([checks.PROGRAM, "conform", path], stdin=subprocess.DEVNULL, capture_output=True, timeout=LIMIT)
+        cases.count.check(f"{said} is opened", result.stdout == f"open 61 {call} -\n".encode(), result)
     row = os.path.join(checks.ROWS, "packet_limits.schedule")
     agree = [f"agent {a}: {count} calls agree" for a, count in enumerate((5, 6, 4))]
     cases.run("limits of packets", [sys.executable, PYTHON_AGENT], row, 0, agree)
@@ -320,13 +370,14 @@ def reports(cases):
     example = os.path.join(checks.EXAMPLES, "deploy_gossiped_twice.schedule")
     got = compare([example], [*wrong, "never_seen"])
     cases.count.check(f"{page}: the report", got == (1, report), got)
-    got = compare(["--random", "1-200"], [*wrong, "greatest_time_accepted"])
+    got = compare(["--random", "1-200"], [*wrong, "max_time_accepted"])
     cases.count.check(f"{page}: the report of seeds", got == (1, of_seeds), got)
     again = os.path.join(cases.folder, "again.schedule")
     with open(again, "wb") as file:
-        file.write(checks.ran(["random", "2"])[1])
-    got = compare([again, "--agent", "2"], [*wrong, "greatest_time_accepted"])
-    cases.count.check(f"{page}: the same calls again", got == (1, of_seeds.partition("\n")[2]), got)
+        file.write(checks.run_program(["random", "2"])[1])
+    got = compare([again, "--agent", "2"], [*wrong, "max_time_accepted"])
+    lines, found, _ = of_seeds.partition("\n")[2].partition("compared: ")
+    cases.count.check(f"{page}: the same calls again", found and got == (1, lines + "compared: 21 calls of 1 agents\n"), got)
     folder = folder_of_reader(os.path.join(cases.folder, "reader"))
     for command in pages.of(pages.CONFORM, page):
         if "conform " in command.text:
@@ -342,10 +393,10 @@ def shares(cases):
     for command in pages.of(pages.CONFORM):
         if "hold " in command.text:
             tasks = range(50) if "SLURM_ARRAY_TASK_ID" in command.text else [0]
-            said = "".join(by_shell(cases.folder, command.text, SLURM_ARRAY_TASK_ID=str(task)).stdout for task in tasks)
-            shares = sorted(tuple(map(int, share.split("-"))) for share in said.split())
+            output = "".join(by_shell(cases.folder, command.text, SLURM_ARRAY_TASK_ID=str(task)).stdout for task in tasks)
+            shares = sorted(tuple(map(int, share.split("-"))) for share in output.split())
             seeds = [seed for first, last in shares for seed in range(first, last + 1)]
-            cases.count.check(command.name(), seeds == list(range(1, 2001)), said)
+            cases.count.check(command.name(), seeds == list(range(1, 2001)), output)
 
 
 def calls_of(text):
@@ -367,11 +418,11 @@ def pipe(cases):
     calls, wanted = calls_of(shown)
     cases.count.check(f"{page}: calls", len(calls) == 20 and all(wanted), (calls, wanted))
     said = "".join("".join(line + "\n" for line in reply) + "\n" for reply in wanted)
-    ran = subprocess.run([sys.executable, PYTHON_AGENT], input="\n".join(calls) + "\n", capture_output=True, text=True, timeout=LIMIT)
-    cases.count.check(f"{page}: its examples", ran.stdout == said, ran)
+    result = subprocess.run([sys.executable, PYTHON_AGENT], input="\n".join(calls) + "\n", capture_output=True, text=True, timeout=LIMIT)
+    cases.count.check(f"{page}: its examples", result.stdout == said, result)
 
 
-PARTS = (examples, by_meaning, ends_between_calls, states, whole_reports, refused, looks, rules, rules_of_keeping, limits, machine_reports, reports, shares, pipe)
+PARTS = (examples, by_meaning, compared, ends_between_calls, states, whole_reports, reasons, refused, looks, rules, rules_of_keeping, limits, machine_reports, reports, shares, pipe)
 
 
 if __name__ == "__main__":

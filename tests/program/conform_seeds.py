@@ -81,13 +81,15 @@ def seeds(cases):
         ["error: both a schedule and --random are given: give only one of them\n"],
         ["--random", "1"],
     )
-    ran = subprocess.run([checks.PROGRAM, "conform"], stdin=subprocess.DEVNULL, capture_output=True, timeout=LIMIT)
+    result = subprocess.run([checks.PROGRAM, "conform"], stdin=subprocess.DEVNULL, capture_output=True, timeout=LIMIT)
     said = b"error: no schedule: give a file, or seeds as --random A-B\n"
-    cases.count.check("neither", (ran.returncode, ran.stdout, ran.stderr) == (2, b"", said), ran)
+    cases.count.check("neither", (result.returncode, result.stdout, result.stderr) == (2, b"", said), result)
 
 
 def found_in(report):
-    """The kind and the seed of each disagreement in a report, and the lines about its agent."""
+    """The kind and the seed of each disagreement in a report, and the lines about its agent. The last line of a report has the
+    sums of the whole run."""
+    report = re.sub(r"(?m)^compared: .*\n", "", report)
     parts = re.split(r"(?m)^(?:kind (\S+): )?seed (\d+): .* agree before\n", report)
     return [(parts[at], int(parts[at + 1]), parts[at + 2]) for at in range(1, len(parts), 3)]
 
@@ -95,21 +97,21 @@ def found_in(report):
 def kinds(cases):
     """All kinds, one after another: the report of each, and which kind and seed find a wrong agent."""
     good, words = [sys.executable, PYTHON_AGENT], ["--random", "3-4", "--kind", "all", "--actions", "30"]
-    status, said = compare(words, good)
-    told = re.findall(r"(?m)^kind (\S+): 2 seeds and (\d+) calls agree$", said)
-    cases.count.check("all kinds", status == 0 and [kind for kind, _ in told] == list(checks.KINDS), (status, said))
+    status, output = compare(words, good)
+    told = re.findall(r"(?m)^kind (\S+): 2 seeds and (\d+) calls agree$", output)
+    cases.count.check("all kinds", status == 0 and [kind for kind, _ in told] == list(checks.KINDS), (status, output))
     sums = {"report": "end", "schedules": 2 * len(told), "calls": sum(int(calls) for _, calls in told)}
     sums |= {"disagreements": 0, "status": 0}
     cases.machine_report("all kinds, for machines", good, words, 0, [sums])
     wrong, path = [*good, "--wrong", "ack_counts_twice"], os.path.join(cases.folder, "kinds.jsonl")
-    status, said = compare(["--random", "1-2", "--kind", "all", "--report", path], wrong)
-    (kind, seed, lines), *more = found_in(said)
+    status, output = compare(["--random", "1-2", "--kind", "all", "--report", path], wrong)
+    (kind, seed, lines), *more = found_in(output)
     with open(path) as file:
         told = [json.loads(line) for line in file]
     holds = (status, more) == (1, []) and kind in checks.KINDS and told[0]["kind"] == kind and told[0]["seed"] == seed
-    cases.count.check("a wrong agent, by all kinds", holds and list(told[0])[:3] == ["report", "seed", "kind"], (status, said, told))
+    cases.count.check("a wrong agent, by all kinds", holds and list(told[0])[:3] == ["report", "seed", "kind"], (status, output, told))
     again = compare(["--random", str(seed), "--kind", kind], wrong)
-    cases.count.check("once more, by its kind", again[0] == 1 and again[1].endswith(lines), (said, again))
+    cases.count.check("once more, by its kind", again[0] == 1 and found_in(again[1])[-1][2] == lines, (output, again))
     cases.run("a kind that isn't there", ["cat"], "--random", 2, ["--kind accepts mixed", " or all\n"], ["1", "--kind", "al"])
 
 
@@ -120,28 +122,29 @@ def goes_on(cases):
     alone = {seed: compare(["--random", str(seed), *words[2:]], wrong) for seed in range(1, 13)}
     others = [seed for seed, (status, _) in alone.items() if status == 1]
     cases.count.check("some seeds differ, and some don't", 3 <= len(others) < 12, alone)
-    for most in (1, 2, len(others), 100):
-        status, said = compare([*words, "--go-on", str(most), "--report", path], wrong)
-        found = found_in(said)
-        wanted = others[:most]
+    for maximum in (1, 2, len(others), 100):
+        status, output = compare([*words, "--go-on", str(maximum), "--report", path], wrong)
+        found = found_in(output)
+        wanted = others[:maximum]
         end = f"{12 - len(others)} seeds and "
-        if most == 100:
-            tail = f" calls agree, and {len(others)} seeds don't\n"
-            cases.count.check("the last line", said.endswith(tail) and end in said.splitlines()[-1], said)
-            found[-1] = (*found[-1][:2], "".join(found[-1][2].splitlines(keepends=True)[:-1]))
-        lines = [(None, seed, alone[seed][1].partition("\n")[2]) for seed in wanted]
-        cases.count.check(f"it continues, {most}", (status, found) == (1, lines), (status, said))
+        if maximum == 100:
+            tail = f" calls agree, and {len(others)} seeds don't"
+            sums = output.splitlines()[-2]
+            cases.count.check("the sums of seeds", sums.endswith(tail) and end in sums, output)
+            found = found_in(output.replace(sums + "\n", ""))
+        lines = [found_in(alone[seed][1])[0] for seed in wanted]
+        cases.count.check(f"it continues, {maximum}", (status, found) == (1, lines), (status, output))
         with open(path) as file:
             *told, sums = [json.loads(line) for line in file]
-        held = 12 if most == 100 else wanted[-1]
+        held = 12 if maximum == 100 else wanted[-1]
         holds = [one["seed"] for one in told] == wanted and "kind" not in told[0]
         holds = holds and (sums["schedules"], sums["disagreements"]) == (held - len(wanted), len(wanted))
-        cases.count.check(f"it continues, {most}, for machines", holds, (told, sums))
-    status, said = compare(["--random", "1-3", "--kind", "all", "--actions", "60", "--go-on", "4"], wrong)
-    found = [(checks.KINDS.index(kind), seed) for kind, seed, _ in found_in(said)]
-    cases.count.check("over kinds", status == 1 and len(found) == 4 and found == sorted(found), said)
-    status, said = compare(["--random", "1-12", "--go-on", "9"], [sys.executable, "-c", ENDS])
-    cases.count.check("ends in the middle", status == 3 and "\n  got: opened 1 1 2\n" in said and said.endswith("the agent ended\n"), said)
+        cases.count.check(f"it continues, {maximum}, for machines", holds, (told, sums))
+    status, output = compare(["--random", "1-3", "--kind", "all", "--actions", "60", "--go-on", "4"], wrong)
+    found = [(checks.KINDS.index(kind), seed) for kind, seed, _ in found_in(output)]
+    cases.count.check("over kinds", status == 1 and len(found) == 4 and found == sorted(found), output)
+    status, output = compare(["--random", "1-12", "--go-on", "9"], [sys.executable, "-c", ENDS])
+    cases.count.check("ends in the middle", status == 3 and "\n  got: opened 1 1 2\n" in output and "\n  got: the agent ended\n" in output, output)
     example = os.path.join(checks.EXAMPLES, "deploy_gossiped_twice.schedule")
     for name, more in (("none", ["--random", "1", "--go-on", "0"]), ("a schedule", [example, "--go-on", "2"])):
         cases.run(f"refused: --go-on, {name}", ["cat"], more[0], 2, ["--go-on"], more[1:])
@@ -166,13 +169,13 @@ def progress(cases):
         agent = ["sh", "-c", f'"{sys.executable}" "{delay}" | "{sys.executable}" "{PYTHON_AGENT}"{wrong}']
         if "all" in words:
             agent[2] = agent[2].replace(" |", " 200 |", 1)
-        status, said = compare(words, agent, program)
-        shown = re.findall(rf"(?m)^{line}\r?$", said)
+        status, output = compare(words, agent, program)
+        shown = re.findall(rf"(?m)^{line}\r?$", output)
         grows = shown == sorted(shown, key=lambda row: int(re.search(r"\d+", row)[0]))
-        cases.count.check(f"on a terminal: {' '.join(words)}", shown and (grows or "all" in words), (status, said))
+        cases.count.check(f"on a terminal: {' '.join(words)}", shown and (grows or "all" in words), (status, output))
         if "all" not in words:
-            quiet = re.sub(rf"(?m)^{line}\r?\n", "", said).replace("\r\n", "\n")
-            cases.count.check(f"on no terminal: {' '.join(words)}", compare(words, agent) == (status, quiet), (status, said))
+            quiet = re.sub(rf"(?m)^{line}\r?\n", "", output).replace("\r\n", "\n")
+            cases.count.check(f"on no terminal: {' '.join(words)}", compare(words, agent) == (status, quiet), (status, output))
 
 
 def shrinks(cases):
@@ -234,7 +237,7 @@ def fails_without_one(cases, agent, path):
             continue
         with open(less, "w") as file:
             file.writelines(lines[:number] + lines[number + 1:])
-        if compare([less], agent)[0] != 0:
+        if "\n  wanted: " in compare([less], agent)[1]:
             return True
     return False
 
@@ -243,13 +246,13 @@ def seed_told(cases):
     """The report of a seed that finds a wrong agent has what standard error has."""
     path = os.path.join(cases.folder, "told.jsonl")
     agent = [sys.executable, PYTHON_AGENT, "--wrong", "never_seen"]
-    status, said = compare(["--random", "1-60", "--shrink", "--report", path], agent)
+    status, output = compare(["--random", "1-60", "--shrink", "--report", path], agent)
     with open(path) as file:
         found, sums = [json.loads(line) for line in file]
     place = f"agent {found['agent']}: action {found['action']}, line {found['line']}: {found['call'][:60]}"
     begins = f"seed {found['seed']}: {sums['schedules']} seeds and {sums['calls']} calls agree before"
-    holds = status == 1 == sums["disagreements"] == sums["status"] and begins in said and place in said
-    cases.count.check("a report of a seed's find", holds and found["report"] == "differs", (status, said, found, sums))
+    holds = status == 1 == sums["disagreements"] == sums["status"] and begins in output and place in output
+    cases.count.check("a report of a seed's find", holds and found["report"] == "differs", (status, output, found, sums))
 
 
 PARTS = (seeds, kinds, goes_on, progress, shrinks, seed_told)

@@ -75,7 +75,7 @@ ACK = b"\x05\x85\xa5LTime\x01\xa2ID\x07\xa4From\xa1b\xa5Flags\x01\xa7Payload\xa0
 RESPONSE = b"\x05\x85\xa5LTime\x01\xa2ID\x07\xa4From\xa1b\xa5Flags\x00\xa7Payload\xa2ok"
 
 # The largest number, of eight bytes.
-GREATEST = b"\xcf" + b"\xff" * 8
+MAX_UINT64 = b"\xcf" + b"\xff" * 8
 
 # A list of more than fifteen items has its length in two bytes; nineteen of these slots are nil.
 TWENTY_SLOTS = (
@@ -122,16 +122,16 @@ PACKETS = (
     (ACK, answer(1, 7, b"b", 1)),
     (RESPONSE, answer(1, 7, b"b", 0, b"ok")),
     # a response may name any time of its query
-    (b"\x05\x81\xa5LTime" + GREATEST, answer(18446744073709551615)),
+    (b"\x05\x81\xa5LTime" + MAX_UINT64, answer(18446744073709551615)),
     (TWO_SLOTS, state(1, 9, 1, slots=[(8, [(b"a", b"")]), None, None, (7, [(b"b", b"1")])])),
     (STATE_OF_DEPLOY, state(1, 2, 1, slots=[None, (1, [(b"deploy", b"v1")])])),
     # a clock, unlike a time, may be the largest number
-    (b"\x02\x81\xa5LTime" + GREATEST, state(18446744073709551615)),
-    (b"\x02\x81\xaaEventLTime" + GREATEST, state(0, 18446744073709551615)),
-    (b"\x02\x81\xaaQueryLTime" + GREATEST, state(0, 0, 18446744073709551615)),
+    (b"\x02\x81\xa5LTime" + MAX_UINT64, state(18446744073709551615)),
+    (b"\x02\x81\xaaEventLTime" + MAX_UINT64, state(0, 18446744073709551615)),
+    (b"\x02\x81\xaaQueryLTime" + MAX_UINT64, state(0, 0, 18446744073709551615)),
     # a name may have two status times, and nil is the zero value
     (
-        b"\x02\x83\xa5LTime" + GREATEST + b"\xacStatusLTimes\x82\xa1a\x05\xa1a\xc0\xabLeftMembers\x92\xc0\xa1b",
+        b"\x02\x83\xa5LTime" + MAX_UINT64 + b"\xacStatusLTimes\x82\xa1a\x05\xa1a\xc0\xabLeftMembers\x92\xc0\xa1b",
         state(18446744073709551615, status=[(b"a", 5), (b"a", 0)], left=[b"", b"b"]),
     ),
     (
@@ -226,10 +226,10 @@ REFUSED = (
     (b"\x03" + b"\x91" * 9 + b"\xc0", "TooDeep 9"),
     (b"\x03\x81\xa1X" + b"\x91" * 8 + b"\xc0", "TooDeep 11"),
     # 2^64 - 1 is no time of an event, a query or a slot, even of one without events
-    (b"\x03\x81\xa5LTime" + GREATEST, "GreatestTime 8"),
-    (b"\x04\x81\xa5LTime" + GREATEST, "GreatestTime 8"),
-    (b"\x02\x81\xa6Events\x91\x81\xa5LTime" + GREATEST, "GreatestTime 17"),
-    (b"\x02\x81\xa6Events\x91\x82\xa5LTime" + GREATEST + b"\xa6Events\x90", "GreatestTime 17"),
+    (b"\x03\x81\xa5LTime" + MAX_UINT64, "GreatestTime 8"),
+    (b"\x04\x81\xa5LTime" + MAX_UINT64, "GreatestTime 8"),
+    (b"\x02\x81\xa6Events\x91\x81\xa5LTime" + MAX_UINT64, "GreatestTime 17"),
+    (b"\x02\x81\xa6Events\x91\x82\xa5LTime" + MAX_UINT64 + b"\xa6Events\x90", "GreatestTime 17"),
     # errors inside lists: a filter that is no text, a key of the status times that is none, an event that is no map
     (b"\x04\x81\xa7Filters\x92\xa0\x01", "WrongKind 12"),
     (b"\x02\x81\xacStatusLTimes\x81\x01\x01", "BadKey 16"),
@@ -267,7 +267,7 @@ def refused(count):
     said = f"bad hex: character 1 is not a hex digit\nto decode a file, run: serf-replay decode < {SENT}\n".encode()
     count.exactly("a file in place of a packet", ["decode", SENT], 1, b"", said)
     lines = checks.read(SENT)
-    count.check("`-` is standard input", checks.ran(["decode", "-"], lines) == checks.ran(["decode"], lines) and lines)
+    count.check("`-` is standard input", checks.run_program(["decode", "-"], lines) == checks.run_program(["decode"], lines) and lines)
 
 
 def examples(count):
@@ -323,11 +323,11 @@ def framing(count):
         (alive, b"looks like a message of memberlist: a node is suspect, alive or dead"),
         (b"09", b"begins like memberlist's framing: 9, a compressed message"),
     ):
-        made = subprocess.run([checks.PROGRAM, "decode", digits.decode()], capture_output=True, timeout=checks.LIMIT)
-        count.check(f"alone {digits.decode()}", made.stderr.startswith(b"the packet " + kind + b"\n"), made.stderr)
+        result = subprocess.run([checks.PROGRAM, "decode", digits.decode()], capture_output=True, timeout=checks.LIMIT)
+        count.check(f"alone {digits.decode()}", result.stderr.startswith(b"the packet " + kind + b"\n"), result.stderr)
     for digits in (b"0281a55365714e", b"0481a55365714e6f01", b"0181ab496e6361726e6174696f6e01", b"06a55365714e6f"):
-        made = subprocess.run([checks.PROGRAM, "decode", digits.decode()], capture_output=True, timeout=checks.LIMIT)
-        count.check(f"not memberlist's {digits.decode()}", b"memberlist" not in made.stderr, made.stderr)
+        result = subprocess.run([checks.PROGRAM, "decode", digits.decode()], capture_output=True, timeout=checks.LIMIT)
+        count.check(f"not memberlist's {digits.decode()}", b"memberlist" not in result.stderr, result.stderr)
     count.exactly("a relay of something else", ["decode"], 0, b"foreign 8\n\n", b"", b"080a\n")
 
 

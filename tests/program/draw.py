@@ -32,7 +32,7 @@ MESSAGE = re.compile(rf"{WHO}(->>|-->>|-x){WHO}: {TEXT}\Z")
 NOTE = re.compile(rf"Note over {WHO}: {TEXT}\Z")
 
 
-def drawn(words, schedule=b""):
+def draw_schedule(words, schedule=b""):
     command = [checks.PROGRAM, "draw", *words]
     return subprocess.run(command, input=schedule, capture_output=True, timeout=checks.LIMIT)
 
@@ -93,7 +93,7 @@ def shown(text):
 
 def mermaid_is_sound(count, name, words, schedule, root):
     """The diagram follows the grammar, and has the same content as the picture of the same run."""
-    ran = drawn(["--as", "mermaid", *words], schedule)
+    ran = draw_schedule(["--as", "mermaid", *words], schedule)
     head, *lines, end = ran.stdout.decode("ascii").split("\n")
     count.check(f"{name}: a sequence diagram", (ran.returncode, head, end) == (0, "sequenceDiagram", ""), ran)
     who = [PARTICIPANT.match(line) for line in lines]
@@ -159,7 +159,7 @@ def lines_are_sound(count, name, root):
 def examples(count):
     for name in checks.names_in(checks.EXAMPLES):
         path = os.path.join(checks.EXAMPLES, name)
-        ran = drawn([path + ".schedule"])
+        ran = draw_schedule([path + ".schedule"])
         wanted = (0, checks.read(path + ".svg"), b"")
         count.check(f"{name} is its picture", (ran.returncode, ran.stdout, ran.stderr) == wanted, ran.stderr)
         root = tree.fromstring(ran.stdout)
@@ -204,7 +204,7 @@ def bad_bytes(count):
         b"x" * 128,
     ):
         text = b"agent %s 4 4 9216 8 keep\nfire 0 %s %s 0\ndeliver 0 0 0\n" % ((name.hex().encode(),) * 3)
-        ran = drawn([], text)
+        ran = draw_schedule([], text)
         root = tree.fromstring(ran.stdout)
         count.check(
             f"{name[:8]} breaks out of its place",
@@ -218,7 +218,7 @@ def bad_bytes(count):
         )
         nothing_overlaps(count, f"{name[:8]}", root)
         mermaid_is_sound(count, f"{name[:8]}", [], text, root)
-    ran = drawn([], AGENTS + b"fire 0 61 %s 0\ninject %s\ndeliver 1 0 0\n" % (b"41" * 400, b"ff" * 9216))
+    ran = draw_schedule([], AGENTS + b"fire 0 61 %s 0\ninject %s\ndeliver 1 0 0\n" % (b"41" * 400, b"ff" * 9216))
     count.check(
         "long texts are shown with their length",
         b"AAAAAAAA..(400)" in ran.stdout and b">9216 bytes injected<" in ran.stdout,
@@ -226,14 +226,14 @@ def bad_bytes(count):
     )
     clock = 2**64 - 2
     late = b"84a54c54696d65cf%016x" % clock + b"a44e616d65a178a75061796c6f6164a0a24343c2"
-    root = tree.fromstring(drawn([], AGENTS + b"inject 03%s\ndeliver 0 0 0\n" % late).stdout)
+    root = tree.fromstring(draw_schedule([], AGENTS + b"inject 03%s\ndeliver 0 0 0\n" % late).stdout)
     wanted = [f"x  @{clock} injected", f"x  @{clock} new, clock {clock + 1}"]
     count.check("the last time", labels(root) == wanted, labels(root))
     nothing_overlaps(count, "the last time", root)
 
 
 def root_of(words, schedule):
-    return tree.fromstring(drawn(words, schedule).stdout)
+    return tree.fromstring(draw_schedule(words, schedule).stdout)
 
 
 def outsides(count, text):
@@ -256,7 +256,7 @@ def outsides(count, text):
         count.check(f"outside: {name}", outside_heads(root) == [(y, "outside") for y in lines], outside_heads(root))
         lines_are_sound(count, f"outside: {name}", root)
         nothing_overlaps(count, f"outside: {name}", root)
-    named = drawn([], b"agent 6f757473696465 4 4 512 8 keep\nfire 0 78 79 0\n")
+    named = draw_schedule([], b"agent 6f757473696465 4 4 512 8 keep\nfire 0 78 79 0\n")
     root = tree.fromstring(named.stdout)
     count.check("outside: an agent of this name", (heads(root), outside_heads(root)) == ({65: ["outside"]}, []), named.stdout)
 
@@ -266,7 +266,7 @@ def arrows(count):
         AGENTS
         + b"fire 0 78 79 0\ndeliver 1 0 0\ndeliver 1 0 0\ninject ff\ndeliver 0 2 0\ndeliver 0 9 0\nrestart 1 -\n"
     )
-    root = tree.fromstring(drawn([], text).stdout)
+    root = tree.fromstring(draw_schedule([], text).stdout)
     wanted = [
         ("t", ((500, 150), (1500, 250))),
         ("i", ((500, 150), (1500, 350))),
@@ -279,47 +279,47 @@ def arrows(count):
     count.check("a packet that nobody receives has a cross", crosses(root) == wanted_crosses, crosses(root))
     mermaid_is_sound(count, "arrows", [], text, root)
     outsides(count, text)
-    root = tree.fromstring(drawn(["--from", "2", "--to", "3"], text).stdout)
+    root = tree.fromstring(draw_schedule(["--from", "2", "--to", "3"], text).stdout)
     wanted = [("t", ((500, 150), (1500, 150))), ("i", ((500, 150), (1500, 250)))]
     count.check("a range has its arrows, on its own lines", paths(root) == wanted, paths(root))
     lines_are_sound(count, "a range", root)
-    root = tree.fromstring(drawn(["--agent", "1"], text).stdout)
+    root = tree.fromstring(draw_schedule(["--agent", "1"], text).stdout)
     count.check(
         "an agent by itself has its arrows, from the left edge",
         paths(root) == [("t", ((-500, 150), (500, 150))), ("i", ((-500, 150), (500, 250)))],
         paths(root),
     )
-    ran = drawn(["--from", "100"], text)
+    ran = draw_schedule(["--from", "100"], text)
     count.check(
         "a range after the end",
         (ran.returncode, ran.stderr, paths(tree.fromstring(ran.stdout))) == (0, b"no action is drawn\n", []),
         ran,
     )
-    ran = drawn([], AGENTS + b"deliver 0\n")
+    ran = draw_schedule([], AGENTS + b"deliver 0\n")
     count.check("a bad line", (ran.returncode, ran.stdout, ran.stderr) == (1, b"", b"bad line 3 WordCount\n"), ran)
     mermaid_is_sound(count, "an agent by itself", ["--agent", "1"], text, root_of(["--agent", "1"], text))
     for words in (["--agent", "x"], ["--as", "png"]):
-        ran = drawn(words, text)
+        ran = draw_schedule(words, text)
         count.check(f"bad words {words}", (ran.returncode, ran.stdout) == (2, b""), ran)
     for agent, words in (("2", ["--agent", "2"]), ("7", ["--agent", "1", "--agent", "7", "--agent", "9"])):
         told = b"error: --agent %s: the schedule has 2 agents, counted from 0\n" % agent.encode()
-        ran = drawn(words, text)
+        ran = draw_schedule(words, text)
         count.check(f"an agent that isn't there: {words}", (ran.returncode, ran.stdout, ran.stderr) == (2, b"", told), ran)
     for words, empty in (([], b""), (["--as", "mermaid"], b"# nothing\n")):
-        ran = drawn(words, empty)
+        ran = draw_schedule(words, empty)
         told = b"the schedule has no agents: the picture is empty\n"
         count.check("an empty schedule is reported", ran.stdout and (ran.returncode, ran.stderr) == (0, told), ran)
-    ran = drawn(["--agent", "0"], b"")
+    ran = draw_schedule(["--agent", "0"], b"")
     told = b"error: --agent 0: the schedule has 0 agents, counted from 0\n"
     count.check("an agent of an empty schedule", (ran.returncode, ran.stdout, ran.stderr) == (2, b"", told), ran)
-    lane = drawn(["--agent", "1"], text).stdout
+    lane = draw_schedule(["--agent", "1"], text).stdout
     for word in ("b", "62"):
-        ran = drawn(["--agent", word], text)
+        ran = draw_schedule(["--agent", word], text)
         count.check(f"an agent by its name: {word}", (ran.returncode, ran.stdout, ran.stderr) == (0, lane, b""), ran)
     told = b"error: --agent B: no agent of the schedule has this name, as it is or in hex\n"
-    ran = drawn(["--agent", "a", "--agent", "B"], text)
+    ran = draw_schedule(["--agent", "a", "--agent", "B"], text)
     count.check("a name that isn't there", (ran.returncode, ran.stdout, ran.stderr) == (2, b"", told), ran)
-    count.check("an SVG if an option requests it", drawn(["--as", "svg"], text).stdout == drawn([], text).stdout)
+    count.check("an SVG if an option requests it", draw_schedule(["--as", "svg"], text).stdout == draw_schedule([], text).stdout)
 
 
 # a fires three events, b merges them, and again; c gets the second one twice, and the third one after a restart.
@@ -370,6 +370,18 @@ def passed_over(count):
     mermaid_is_sound(count, "what merges passed over", [], text, root)
 
 
+def held_back(count):
+    """A query whose filters don't let an agent pass is grey there, and its label says so. The label of an answer names its node."""
+    text = b"agent 61 4 4 512 8 keep\nagent 62 4 4 512 8 keep\nagent 63 4 4 512 8 keep\n"
+    text += b"query 0 0 7 6c6f6164 - 1000 1 0091a162\ndeliver 1 0 0\ndeliver 2 0 0\ndeliver 0 2 0\n"
+    root = root_of([], text)
+    wanted = ["query load  queried 1", "query load  @1 query", "query load  @1 held back", "answer of b @1 ack"]
+    count.check("a query that was held back", labels(root) == wanted, labels(root))
+    count.check("its arrow", [kind for kind, _ in paths(root)] == ["t", "i", "t"], paths(root))
+    count.check("--taken keeps it", labels(root_of(["--taken"], text)) == wanted, labels(root_of(["--taken"], text)))
+    mermaid_is_sound(count, "a query that was held back", [], text, root)
+
+
 def choices(count):
     """What --taken and --event leave out; the remaining rows keep their numbers."""
     whole = root_of([], STORY)
@@ -407,7 +419,7 @@ def many(count):
     actions = b"".join(
         b"fire %d 6465706c6f79 7631 0\n" % (i % 30) + b"deliver %d %d 0\n" % ((i * 7 + 1) % 30, i) for i in range(150)
     )
-    root = tree.fromstring(drawn([], agents + actions).stdout)
+    root = tree.fromstring(draw_schedule([], agents + actions).stdout)
     count.check("30 lanes", lanes_of(root) == 30)
     count.check("names 8 times", [len(names) for names in heads(root).values()] == [30] * 8, heads(root))
     lines_are_sound(count, "a large cluster", root)
@@ -417,4 +429,4 @@ def many(count):
 
 
 if __name__ == "__main__":
-    sys.exit(checks.over_program(examples, colours, bad_bytes, arrows, merges, passed_over, choices, many))
+    sys.exit(checks.over_program(examples, colours, bad_bytes, arrows, merges, passed_over, held_back, choices, many))

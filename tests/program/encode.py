@@ -59,13 +59,13 @@ def examples(count):
     texts = [text + b"\n\n" for text in checks.read("examples", "packets.text").split(b"\n\n") if text]
     count.check("texts of packets", len(texts) >= 7, len(texts))
     for number, text in enumerate(texts, 1):
-        _, packets, said = checks.ran(["encode"], text)
+        _, packets, said = checks.run_program(["encode"], text)
         count.exactly(f"text {number} there and back", ["decode"], 0, text, said, packets)
 
 
 def each_kind(count):
     texts = STATE + QUERY + EVENT + FOREIGN
-    packets = checks.ran(["encode"], texts)[1]
+    packets = checks.run_program(["encode"], texts)[1]
     count.exactly("each kind there and back", ["decode"], 0, texts, b"", packets)
     count.exactly("packets as they were", ["encode"], 0, packets, b"", b"\n" + texts + b"\n")
 

@@ -13,10 +13,10 @@ import tempfile
 sys.dont_write_bytecode = True
 sys.path.insert(0, os.path.dirname(os.path.dirname(os.path.abspath(__file__))))
 import checks
-from checks import ran, read
+from checks import run_program, read
 
 sys.path.insert(0, os.path.join(checks.TOP, "tests", "program", "explain"))
-from particular import AGENTS, any_bytes, kept, least_times, of_earlier_actions, said_rows
+from particular import AGENTS, any_bytes, kept, minimum_times, of_earlier_actions, said_rows
 from stories import ACTIONS, actions_of, taken_apart, what_is_said
 
 SEEDS = (1, 2, 3)
@@ -36,7 +36,7 @@ def random_schedules(count):
     total = (0, 0, 0)
     for kind in checks.KINDS:
         for seed in SEEDS:
-            schedule = ran(["random", str(seed), "--kind", kind, "--actions", ACTIONS])[1]
+            schedule = run_program(["random", str(seed), "--kind", kind, "--actions", ACTIONS])[1]
             story = taken_apart(count, f"{kind} {seed}", schedule)
             if story:
                 some = what_is_said(count, f"{kind} {seed}", story)
@@ -49,17 +49,17 @@ def incident(count):
     """The page of the incident has the last lines exactly, and so has a file; its pictures are the program's."""
     page = read("examples", "incident", "README.md").decode()
     for name in ("as_flushed", "as_serf_kept"):
-        schedule = ran(["write"], read("examples", "incident", name + ".written"))[1]
+        schedule = run_program(["write"], read("examples", "incident", name + ".written"))[1]
         story = taken_apart(count, name, schedule)
         if story:
             what_is_said(count, name, story)
         at = 1 + next(place for place, words in enumerate(actions_of(schedule)[0]) if words[0] == b"restart")
-        status, text, said = ran(["explain", "--agent", "1", "--from", str(at)], schedule)
+        status, text, said = run_program(["explain", "--agent", "1", "--from", str(at)], schedule)
         count.check(
             f"{name}: the last lines are in a file", text == read("examples", "incident", name + ".reasons"), text
         )
         shown = "".join("    " + line + "\n" for line in text.decode().split("\n")[:-1])
-        count.check(f"{name}: its picture", ran(["draw"], schedule)[1] == read("examples", "incident", name + ".svg"))
+        count.check(f"{name}: its picture", run_program(["draw"], schedule)[1] == read("examples", "incident", name + ".svg"))
         count.check(
             f"{name}: the last lines are on the page", (status, said) == (0, b"") and shown and shown in page, text
         )
@@ -67,13 +67,13 @@ def incident(count):
 
 def partition(count):
     """The schedule of the other incident hands out what its log has; its picture is what the program draws."""
-    schedule = ran(["write"], read("examples", "partition", "as_it_ran.written"))[1]
+    schedule = run_program(["write"], read("examples", "partition", "as_it_ran.written"))[1]
     story = taken_apart(count, "partition", schedule)
     if story:
         what_is_said(count, "partition", story)
-    count.check("partition: its picture", ran(["draw"], schedule)[1] == read("examples", "partition", "as_it_ran.svg"))
+    count.check("partition: its picture", run_program(["draw"], schedule)[1] == read("examples", "partition", "as_it_ran.svg"))
     names = [bytes.fromhex(line.split()[1].decode()) for line in schedule.split(b"\n") if line.startswith(b"agent ")]
-    handed = re.findall(rb"^\d+ event (\d+) (\d+) (\w+) (\w+) 0$", ran(["replay"], schedule)[1], re.M)
+    handed = re.findall(rb"^\d+ event (\d+) (\d+) (\w+) (\w+) 0$", run_program(["replay"], schedule)[1], re.M)
     said = sorted(
         b"event %s %s %s %s" % (names[int(agent)], time, *(bytes.fromhex(word.decode()) for word in (name, payload)))
         for agent, time, name, payload in handed
@@ -84,7 +84,7 @@ def partition(count):
 
 def ranges(count):
     schedule = read("examples", "deploy_gossiped_twice.schedule")
-    status, whole, _ = ran(["explain"], schedule)
+    status, whole, _ = run_program(["explain"], schedule)
     actions = actions_of(schedule)[0]
     actor = {number: words[1] if words[0] != b"inject" else None for number, words in enumerate(actions, 1)}
     cases = [
@@ -100,9 +100,9 @@ def ranges(count):
     cases += [(["--agent", word], lambda n: actor[n] == b"1") for word in ("b", "62")]
     for words, is_shown in cases:
         wanted = b"".join(line + b"\n" for line in whole.split(b"\n")[:-1] if is_shown(int(line.split()[0])))
-        count.check(f"range {words}", ran(["explain", *words], schedule) == (0, wanted, b""))
+        count.check(f"range {words}", run_program(["explain", *words], schedule) == (0, wanted, b""))
     said = b"nothing to explain: the schedule has %d actions\n" % len(actions)
-    count.check("a range after the end", ran(["explain", "--from", "100"], schedule) == (0, b"", said))
+    count.check("a range after the end", run_program(["explain", "--from", "100"], schedule) == (0, b"", said))
     for words, said in (
         (["--from", "3", "--to", "2"], b"nothing to explain: action 2 is before action 3\n"),
     ):
@@ -111,7 +111,7 @@ def ranges(count):
     names = b"".join(b"agent %s 4 4 512 2 keep\n" % name for name in (b"31", b"62657461", b"4a", b"fffe"))
     names += b"".join(b"fire %d 61 - 0\n" % agent for agent in range(4))
     for word, agent in (("1", 1), ("31", 0), ("0", 0), ("beta", 1), ("62657461", 1), ("J", 2), ("4a", 2), ("4A", 2), ("FFfe", 3)):
-        text = ran(["explain", "--agent", word], names)[1]
+        text = run_program(["explain", "--agent", word], names)[1]
         count.check(f"an agent {word}", text.startswith(b"%d fired 1\n" % (agent + 1)) and text.count(b" fired 1\n") == 1, text)
     for word, said in (
         ("9", b"the schedule has 2 agents, counted from 0"),
@@ -122,25 +122,25 @@ def ranges(count):
         told = b"error: --agent %s: %s\n" % (word.encode(), said)
         count.exactly(f"no agent {word!r}", ["explain", "--agent", word], 2, b"", told, schedule)
     for words in (["--agent", "x"], ["--from", "-1"], ["--from", "0"], ["--to", "0"], ["--to", "18446744073709551616"]):
-        status, text, _ = ran(["explain", *words], schedule)
+        status, text, _ = run_program(["explain", *words], schedule)
         count.check(f"bad words {words}", (status, text) == (2, b""))
 
 
 def refusals(count):
     for schedule in (AGENTS + b"deliver 0\n", b"fire\n", AGENTS + b"agent 61 4 4 512 2 keep\n"):
-        wanted = ran(["replay"], schedule)
-        count.check(f"refused {schedule[-20:]}", ran(["explain"], schedule) == wanted and wanted[0] == 1, wanted)
-    count.check("a file that is not there", ran(["explain", "/nowhere/at/all"]) == (3, b"", b"/nowhere/at/all: no such file\n"))
+        wanted = run_program(["replay"], schedule)
+        count.check(f"refused {schedule[-20:]}", run_program(["explain"], schedule) == wanted and wanted[0] == 1, wanted)
+    count.check("a file that is not there", run_program(["explain", "/nowhere/at/all"]) == (3, b"", b"/nowhere/at/all: no such file\n"))
 
 
 def streamed(count, name, schedule):
     """Line by line the text is the same; for a refused schedule it is the text of the lines before the bad one."""
-    wanted, got = ran(["explain"], schedule), ran(STREAM, schedule)
+    wanted, got = run_program(["explain"], schedule), run_program(STREAM, schedule)
     if wanted[0] == 0:
         count.check(f"{name}, line by line", got == wanted, str((wanted, got))[:400])
         return
     line = int(wanted[2].split()[2])
-    front = ran(["explain"], b"\n".join(schedule.split(b"\n")[: line - 1]))
+    front = run_program(["explain"], b"\n".join(schedule.split(b"\n")[: line - 1]))
     count.check(f"{name}, line by line", front[0] == 0 and got == (wanted[0], front[1], wanted[2]), str((wanted, got))[:400])
 
 
@@ -150,7 +150,7 @@ def streams(count):
         for name in checks.names_in(folder):
             streamed(count, name, read(folder, name + ".schedule"))
     for kind in checks.KINDS:
-        streamed(count, f"{kind} 4", ran(["random", "4", "--kind", kind, "--actions", ACTIONS])[1])
+        streamed(count, f"{kind} 4", run_program(["random", "4", "--kind", kind, "--actions", ACTIONS])[1])
     for name, schedule in {
         "nothing": b"",
         "agents alone": AGENTS,
@@ -173,21 +173,21 @@ def streams(count):
 
 def while_it_runs(count):
     """An action's reasons are written before more is read, and a reader that closes the pipe ends the run."""
-    with subprocess.Popen([checks.PROGRAM, *STREAM], stdin=subprocess.PIPE, stdout=subprocess.PIPE) as run:
-        run.stdin.write(AGENTS + b"save 1\n")
-        run.stdin.flush()
-        said = [run.stdout.readline(), run.stdout.readline()]
-        count.check("the first action's reason", said[0] == b"1 saved\n" and said[1].startswith(b"1 because "), said)
-        run.stdin.write(b"save 0\n" * 100)
-        run.stdin.flush()
-        run.stdout.readline()
-        run.stdout.close()
+    with subprocess.Popen([checks.PROGRAM, *STREAM], stdin=subprocess.PIPE, stdout=subprocess.PIPE) as process:
+        process.stdin.write(AGENTS + b"save 1\n")
+        process.stdin.flush()
+        output = [process.stdout.readline(), process.stdout.readline()]
+        count.check("the first action's reason", output[0] == b"1 saved\n" and output[1].startswith(b"1 because "), output)
+        process.stdin.write(b"save 0\n" * 100)
+        process.stdin.flush()
+        process.stdout.readline()
+        process.stdout.close()
         try:
-            run.stdin.write(b"save 0\n" * 100_000)
-            run.stdin.close()
+            process.stdin.write(b"save 0\n" * 100_000)
+            process.stdin.close()
         except BrokenPipeError:
             pass
-        count.check("a reader that closes the pipe", run.wait(60) == 3)
+        count.check("a reader that closes the pipe", process.wait(60) == 3)
 
 
 def to_full_device(count):
@@ -204,8 +204,8 @@ def memory_of(lines):
         with open(path, "wb") as file:
             file.writelines(lines)
         with open(to, "wb") as out:
-            run = subprocess.Popen([checks.PROGRAM, *STREAM, path], stdout=out)
-            _, status, used = os.wait4(run.pid, 0)
+            process = subprocess.Popen([checks.PROGRAM, *STREAM, path], stdout=out)
+            _, status, used = os.wait4(process.pid, 0)
         return status, used.ru_maxrss, os.path.getsize(to)
 
 
@@ -218,11 +218,11 @@ def long_runs(count):
     count.check("their memory", many[1] < 62_500, many)
     count.check("it doesn't grow", many[1] < few[1] + 2048, (few, many))
     seen = AGENTS + b"fire 0 61 - 0\n" + b"deliver 1 0 0\n" * 1_300_000
-    status, text, said = ran(STREAM, seen)
+    status, text, said = run_program(STREAM, seen)
     wanted = b'\n1300001 because "b" was handed event 1 "a" "" at action 2\n'
     count.check("more than 16 MiB", (status, said) == (0, b"") and text.endswith(wanted), (status, said, text[-200:]))
 
 
 if __name__ == "__main__":
-    parts = [examples, random_schedules, incident, partition, ranges, any_bytes, said_rows, kept, of_earlier_actions, least_times, refusals]
+    parts = [examples, random_schedules, incident, partition, ranges, any_bytes, said_rows, kept, of_earlier_actions, minimum_times, refusals]
     sys.exit(checks.by_speed([long_runs], [*parts, streams, while_it_runs, to_full_device]))

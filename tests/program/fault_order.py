@@ -9,10 +9,10 @@ import sys
 sys.dont_write_bytecode = True
 sys.path.insert(0, os.path.dirname(os.path.dirname(os.path.abspath(__file__))))
 import checks
-from one_agent import AGENT, ASK, BREAK, FIRE, GREATEST, answers, deliver, event, merge, query, rows_of, state
+from one_agent import AGENT, ASK, BREAK, FIRE, MAX_UINT64, answers, deliver, event, merge, query, rows_of, state
 
-EXHAUSTED = deliver(event(GREATEST - 1))
-EXHAUSTED_QUERIES = deliver(query(GREATEST - 1))
+EXHAUSTED = deliver(event(MAX_UINT64 - 1))
+EXHAUSTED_QUERIES = deliver(query(MAX_UINT64 - 1))
 LARGE = "fire 78 " + "00" * 600 + " 0"
 
 # For each pair of errors that one action can have at once, the calls, the last of which has both.
@@ -66,7 +66,7 @@ def orders():
 def order_of_faults(count):
     wanted = set(PAIRS) | OUT_OF_REACH
     for action, faults in orders():
-        out = checks.ran(["replay"], f"{AGENT}\n{NOBODY[action]}\n".encode())[1]
+        out = checks.run_program(["replay"], f"{AGENT}\n{NOBODY[action]}\n".encode())[1]
         count.check(f"{action}: {faults[0]} is first", out == b"1 refused NoAgent\n" and faults[0] == "NoAgent", out)
         for first, second in zip(faults[1:], faults[2:]):
             pair = (action, first, second)

@@ -15,7 +15,7 @@ import sys
 sys.dont_write_bytecode = True
 sys.path.insert(0, os.path.dirname(os.path.dirname(os.path.abspath(__file__))))
 import checks
-from checks import ran, read
+from checks import run_program, read
 
 JSON = ["--format", "json"]
 INCIDENT = os.path.join(checks.EXAMPLES, "incident")
@@ -163,7 +163,7 @@ def schedules():
 
 def one_run(count, name, schedule):
     """A schedule's objects have its trace and its reasons, or it is refused as without JSON. Returns its objects."""
-    plain, made = ran(["replay"], schedule), ran(["replay", *JSON], schedule)
+    plain, made = run_program(["replay"], schedule), run_program(["replay", *JSON], schedule)
     count.check(f"{name}: the same status", (made[0], made[2]) == (plain[0], plain[2]), made)
     if plain[0]:
         count.check(f"{name}: nothing is written", made[1] == b"", made[1])
@@ -171,9 +171,9 @@ def one_run(count, name, schedule):
     objects = objects_of(made[1])
     count.check(f"{name}: the trace", told(objects) == plain[1], made[1])
     count.check(f"{name}: the schedule's words", same_words(schedule, objects) and named(schedule, objects), made[1])
-    status, text, said = ran(["explain", *JSON], schedule)
+    status, text, said = run_program(["explain", *JSON], schedule)
     explained = objects_of(text)
-    count.check(f"{name}: the reasons", (status, told(explained), said) == ran(["explain"], schedule), text)
+    count.check(f"{name}: the reasons", (status, told(explained), said) == run_program(["explain"], schedule), text)
     count.check(f"{name}: the states", states_follow(explained) and open_ones(explained), text)
     count.check(f"{name}: earlier actions", earlier_ones(explained), text)
     count.check(
@@ -181,7 +181,7 @@ def one_run(count, name, schedule):
         [each for each in explained if each["kind"] not in ("reason", "state")] == objects,
         text,
     )
-    streamed = ran(["explain", "--stream", *JSON], schedule)
+    streamed = run_program(["explain", "--stream", *JSON], schedule)
     count.check(f"{name}: line by line", streamed[:2] == (0, text), streamed)
     return explained
 
@@ -197,7 +197,7 @@ def runs(count):
 
 def random_runs(count):
     for kind in checks.KINDS:
-        schedule = ran(["random", "5", "--kind", kind, "--actions", "120"])[1]
+        schedule = run_program(["random", "5", "--kind", kind, "--actions", "120"])[1]
         one_run(count, f"random {kind}", schedule)
 
 
@@ -211,7 +211,7 @@ def any_bytes(count):
         schedule = "\n".join(lines).encode() + b"\n"
         one_run(count, f"the bytes {text!r}", schedule)
         log = b"event a 1 %s x\n" % (b"".join(b"%%%02x" % byte for byte in text) or b"-")
-        status, out, _ = ran(["judge", *JSON], log)
+        status, out, _ = run_program(["judge", *JSON], log)
         events = [each for each in objects_of(out) if each["kind"] == "event"]
         count.check(f"the bytes {text!r} in a log", (status, [each["name_hex"] for each in events]) == (0, [text.hex()]), out)
 
@@ -219,7 +219,7 @@ def any_bytes(count):
 def planted(count):
     """An object that has another value, or lacks one, is seen."""
     schedule = read("examples", "a_partition_healed_by_push_pull.schedule")
-    plain, objects = ran(["explain"], schedule)[1], objects_of(ran(["explain", *JSON], schedule)[1])
+    plain, objects = run_program(["explain"], schedule)[1], objects_of(run_program(["explain", *JSON], schedule)[1])
     count.check("as it is", told(objects) == plain and same_words(schedule, objects) and named(schedule, objects) and states_follow(objects))
     changed = {
         "action": ("answer", "call", "agent_name_hex"),
@@ -282,6 +282,7 @@ LOGS = (
     b"2026-11-26T10:00:00Z fired a 3 x y\nevent a 5 x%20z y\nfired a 4 x y\nevent a 4 x y\nnonsense\nevent a x\n",
     b"event a 1 x y\nevent b 2 x y\nevent c 3 x y\n",
     b"query a 1 -\nquery a 1 -\n",
+    b"begun a 1 x y\n2026-11-26 begun a 1 x y\nended a 1 x y 0\nended a 2 x%20z y 3\nbegun b 1 x y\nended b 1 x y signal-9\nevent b 4 x y\n",
 )
 
 
@@ -291,32 +292,53 @@ def judged(count):
     for name in ("incident", "partition", "capture", "leave"):
         logs.append((name, read("examples", name, "handlers.log")))
     for name, log in logs:
-        plain, made = ran(["judge"], log), ran(["judge", *JSON], log)
+        plain, made = run_program(["judge"], log), run_program(["judge", *JSON], log)
         objects = objects_of(made[1])
         count.check(f"{name}: the status", made[0] == plain[0] == objects[-1]["status"], made)
         count.check(f"{name}: the verdicts", verdict_lines(objects) == plain_verdicts(plain[1]), made[1])
-        kinds = [each["kind"] for each in objects if each["kind"] in ("fired", "event", "query", "bad")]
+        # What begins was also handed out, so it has two objects.
+        kinds = [each["kind"] for each in objects if each["kind"] in ("fired", "event", "query", "bad", "ended")]
         lines = [line for line in log.splitlines() if line and not line.startswith((b"#", b"restarted"))]
         count.check(f"{name}: each line", len(kinds) == len(lines), made[1])
-        missed = [line for line in ran(["judge", "--missed"], log)[1].decode().splitlines() if " never came to " in line]
+        missed = [line for line in run_program(["judge", "--missed"], log)[1].decode().splitlines() if " never came to " in line]
         nodes = sum(line.rsplit(" never came to ", 1)[1].count(",") + 1 for line in missed)
         count.check(f"{name}: what was missed", nodes == sum(each["kind"] == "missed" for each in objects), made[1])
+        count.check(f"{name}: handlers", handlers_text(objects) == [line for line in plain[1].decode().splitlines() if line.startswith("Handlers: ")], made[1])
+
+
+def dated(each):
+    """The place of a handler's line, in plain text."""
+    return f"line {each['line']}" + (f" ({each['date']})" if "date" in each else "")
+
+
+def about(each):
+    """The event of a handler, in plain text, which has the words of the log."""
+    return f'{each["node"]} {each["time"]} "{each["name"]}" "{each["payload"]}"'.replace("x z", "x%20z")
+
+
+def handlers_text(objects):
+    """The lines of plain text about handlers."""
+    begun, ended, unended = ([each for each in objects if each["kind"] == kind] for kind in ("begun", "ended", "cut-off"))
+    failed = [each for each in ended if each["status"] != "0"]
+    lines = [f"Handlers: {dated(each)} began and never ended: {about(each)}" for each in unended]
+    lines += [f"Handlers: {dated(each)} ended with status {each['status']}: {about(each)}" for each in failed]
+    return [*lines, f"Handlers: {len(begun)} began, {len(unended)} never ended, {len(failed)} failed"] if begun or ended else []
 
 
 def repeated(count):
     """Each repeat names the first line that it repeats, over several logs."""
     log = os.path.join(INCIDENT, "handlers.log")
     kept = f"beta={os.path.join(INCIDENT, 'beta.snapshot')}"
-    status, text, _ = ran(["judge", log, "--kept", kept, *JSON])
+    status, text, _ = run_program(["judge", log, "--kept", kept, *JSON])
     objects = objects_of(text)
     repeats = [(each["log"], each["line"], each["earlier_log"], each["earlier_line"]) for each in objects if each["kind"] == "repeat"]
     count.check("the incident's repeat", (status, repeats) == (1, [(log, 7, log, 6)]), text)
     found = [each for each in objects if each["kind"] == "kept"]
     count.check("what can come again", [(each["node"], each["clock"], each["again"], each["line"]) for each in found] == [("beta", 2, True, 6)], text)
-    status, text, _ = ran(["judge", log, log, *JSON])
+    status, text, _ = run_program(["judge", log, log, *JSON])
     repeats = [(each["line"], each["earlier_line"]) for each in objects_of(text) if each["kind"] == "repeat"]
     count.check("a log twice: every line again", repeats == [(7, 6)] + [(line, 6 if line == 7 else line) for line in range(1, 8)], text)
-    status, _, said = ran(["judge", *JSON])
+    status, _, said = run_program(["judge", *JSON])
     count.check("a log without a line", (status, said) == (1, b"standard input: no line of a log\n"), said)
 
 
@@ -342,7 +364,7 @@ def kept_snapshots(count):
         for file in snapshots:
             for more in ([], ["--own"], ["--serf"]):
                 words = ["judge", log, "--kept", f"{re.split('[._]', file)[0]}={os.path.join(os.path.dirname(log), file)}", *more]
-                plain, made = ran(words), ran([*words, *JSON])
+                plain, made = run_program(words), run_program([*words, *JSON])
                 lines = [line for line in plain[1].decode().splitlines() if " keeps " in line]
                 found = [kept_line(each) for each in objects_of(made[1]) if each["kind"] == "kept"]
                 count.check(f"{file} {more}", (made[0], found) == (plain[0], lines) and lines, (lines, made))
@@ -353,8 +375,8 @@ def kept_snapshots(count):
 def packets(count):
     """The objects of `decode` have the text of the plain form, and the fields of the message."""
     lines = read("examples", "packets.hex")
-    _, plain, _ = ran(["decode"], lines)
-    status, text, _ = ran(["decode", *JSON], lines)
+    _, plain, _ = run_program(["decode"], lines)
+    status, text, _ = run_program(["decode", *JSON], lines)
     objects = objects_of(text)
     said = "".join((each["text"] if each["kind"] == "message" else f"refused {each['error']}\n") + "\n" for each in objects)
     count.check("packets: the text", said.encode() == plain, text)
@@ -365,7 +387,7 @@ def packets(count):
         if each.get("type") == "userEvent":
             same = (str(each["time"]), hexed(each["name_hex"]), str(int(each["coalesce"]))) == (found["LTime"], found["Name"], found["CC"])
             count.check("packets: an event's fields", same, each)
-    status, text, _ = ran(["decode", "03", *JSON])
+    status, text, _ = run_program(["decode", "03", *JSON])
     count.check("a refused packet", (status, [each["kind"] for each in objects_of(text)]) == (1, ["refused"]), text)
 
 
@@ -375,7 +397,7 @@ def clocks(count):
             if not name.endswith(".snapshot"):
                 continue
             path = os.path.join(folder, name)
-            plain, made = ran(["clocks", path])[1].decode(), ran(["clocks", path, *JSON])[1]
+            plain, made = run_program(["clocks", path])[1].decode(), run_program(["clocks", path, *JSON])[1]
             lines = []
             for each in objects_of(made):
                 front = "without -rejoin: " if each.get("rejoin") is False else ""
@@ -386,12 +408,12 @@ def clocks(count):
 def summaries(count):
     """The objects of a summary have the rows of its CSV."""
     for name, schedule in schedules():
-        status, text, _ = ran(["replay", "--summary", "--format", "csv"], schedule)
+        status, text, _ = run_program(["replay", "--summary", "--format", "csv"], schedule)
         if status:
             continue
         rows = [[value for value in row] for row in csv.reader(text.decode().splitlines())][1:]
         made = []
-        for each in objects_of(ran(["replay", "--summary", *JSON], schedule)[1]):
+        for each in objects_of(run_program(["replay", "--summary", *JSON], schedule)[1]):
             what = each["kind"].removesuffix("-total").replace("action", "actions")
             answer = " ".join(filter(None, [each.get("answer"), each.get("code")]))
             texts = [hexed(each[key]) if key in each else "" for key in ("name_hex", "payload_hex")]

@@ -1,10 +1,11 @@
-"""`judge`: logs of handlers and traces, what is in them twice, from nowhere or too late, what a snapshot leaves open, and
-errors in their lines.
+"""`judge`: logs of handlers and traces, what is in them twice, from nowhere or too late, what a snapshot leaves open, which handlers never
+ended, and errors in their lines.
 
 rows.py checks that no worked row and no example repeats anything.
 """
 
 import os
+import random
 import re
 import sys
 import tempfile
@@ -97,10 +98,10 @@ def every_repeat(count):
         ("two nodes, the later first", burst + burst.replace(b"gamma", b"beta") * 2 + burst),
         ("the same at another node", burst + burst.replace(b"gamma", b"beta") + b"event beta 15 burst n15\n"),
     ):
-        got = checks.ran(["judge"], log)
+        got = checks.run_program(["judge"], log)
         count.check(f"each repeat: {name}", got[0] == 1 and got[1].split(b"\n", 2)[2].startswith(lines_again(log, b"event") + NO_QUERIES), got)
     log = b"query a 5 1\nquery b 4 1\nquery b 4 1\nquery a 3 1\nquery a 5 1\nquery a 3 1\nquery c 5 1\n"
-    got = checks.ran(["judge"], log)
+    got = checks.run_program(["judge"], log)
     count.check("each repeat: queries", got[0] == 1 and got[1].split(b"\n", 3)[3] == lines_again(log, b"query") + NO_FIRINGS, got)
 
 
@@ -116,20 +117,20 @@ def missed(count):
     # A node that fired and got nothing is no receiver. With the same name, each payload and each time makes another event.
     log = b"fired z 1 x y\nevent a 1 x y\nevent b 1 x z\nevent a 2 x y\nevent c 1 x y\nevent a 1 x y\n"
     said = b'Missed: 1 "x" "y" never came to b\nMissed: 1 "x" "z" never came to a, c\nMissed: 2 "x" "y" never came to b, c\n'
-    got = checks.ran(["judge", "--missed"], log)
+    got = checks.run_program(["judge", "--missed"], log)
     count.check("each event by itself", got[1].endswith(said + b"Missed: 3 of 3 events were missed by a node\n"), got)
     for nodes in (17, 18):
         log = b"event n0 1 x y\n" + b"".join(b"event n%d 2 x y\n" % node for node in range(nodes))
         names = b", ".join(b"n%d" % node for node in range(1, 17))
         said = b'Missed: 1 "x" "y" never came to ' + names + (b" and others" if nodes == 18 else b"") + b"\nMissed: 1 of 2 events"
-        got = checks.ran(["judge", "--missed"], log)
+        got = checks.run_program(["judge", "--missed"], log)
         count.check(f"{nodes - 1} nodes that missed it", got[0] == 0 and said in got[1], got)
 
 
 def leave(count):
     """An incident with a kill and a leave: each node's repeats, and that delta's second life ran each event just once."""
     log = checks.read("examples", "leave", "handlers.log")
-    got = checks.ran(["judge"], log)
+    got = checks.run_program(["judge"], log)
     count.check("a leave: each repeat", got[0] == 1 and got[1].split(b"\n", 2)[2] == lines_again(log, b"event") + NO_QUERIES + NO_FIRINGS, got)
     lines = log.splitlines(keepends=True)
     events = {line.split(b" ", 2)[2] for line in lines}
@@ -141,7 +142,7 @@ def long_logs(count):
     """20,000 lines, each with another node and event, are judged in a time that grows with the lines, not with their pairs."""
     log = b"".join(b"event n%d %d x y\n" % (line, line) for line in range(10000)) * 2
     before = checks.processor_seconds()
-    got = checks.ran(["judge", "--missed"], log)
+    got = checks.run_program(["judge", "--missed"], log)
     took = checks.processor_seconds() - before
     lines = got[1].splitlines()
     last = b"Missed: 10000 of 10000 events were missed by a node"
@@ -248,15 +249,15 @@ def kept(count):
         for name, log, node, text, said, status in KEPT_TEXTS:
             with open(path, "wb") as file:
                 file.write(text)
-            got = checks.ran(["judge", "--kept", f"{node}={path}"], log)
+            got = checks.run_program(["judge", "--kept", f"{node}={path}"], log)
             count.check(f"kept: {name}", (got[0], got[2]) == (status, b"") and got[1].endswith(b"no fired lines\n" + said), got)
         with open(path, "wb") as file:
             file.write(b"event-clock: 7\nleave\n")
-        got = checks.ran(["judge", "--own", "--kept", f"b={path}"], EVENTS)
+        got = checks.run_program(["judge", "--own", "--kept", f"b={path}"], EVENTS)
         count.check("kept: a leave of our agent that keeps no events", got[0] == 0 and got[1].endswith(b"no fired lines\nb keeps event-clock 7: nothing was handed out above it\n"), got)
         with open(path, "wb") as file:
             file.write(b"event-clock: 7\n#event 7 61 62\nevent-clock: 4\nleave\n")
-        got = checks.ran(["judge", "--serf", "--kept", f"b={path}"], EVENTS)
+        got = checks.run_program(["judge", "--serf", "--kept", f"b={path}"], EVENTS)
         said = (
             b"b with -rejoin keeps event-clock 4, and line 1 was handed out at 5: it can be handed out again\n"
             b"b without -rejoin keeps event-clock 0, and line 1 was handed out at 5: it can be handed out again\n"
@@ -307,6 +308,84 @@ FIRINGS = (
 )
 
 
+def handlers_of(log):
+    """What `judge` prints of handlers, by this script's own account: for each event at a node, the lines on which its handlers that have not
+    ended began, of which an end removes the last."""
+    waiting, failed, began = {}, b"", 0
+    for number, line in enumerate(log.splitlines(), 1):
+        word, *event = line.split(b" ")
+        if word == b"begun":
+            began += 1
+            waiting.setdefault(tuple(event), []).append(number)
+        elif word == b"ended":
+            waiting.setdefault(tuple(event[:4]), [])[-1:] = []
+            if event[4] != b"0":
+                failed += b'Handlers: line %d ended with status %s: %s %s "%s" "%s"\n' % (number, event[4], *event[:4])
+    left = sorted((number, event) for event, numbers in waiting.items() for number in numbers)
+    said = b"".join(b'Handlers: line %d began and never ended: %s %s "%s" "%s"\n' % (number, *event) for number, event in left)
+    return said + failed + b"Handlers: %d began, %d never ended, %d failed\n" % (began, len(left), failed.count(b"\n"))
+
+
+def handlers(count):
+    """Handlers that began and never ended, handlers that ran twice, and handlers that failed."""
+    log = b"begun a 1 x y\nended a 1 x y 0\nbegun b 1 x y\nbegun a 2 x y\nended a 2 x y 3\n"
+    said = b'Handlers: line 3 began and never ended: b 1 "x" "y"\nHandlers: line 5 ended with status 3: a 2 "x" "y"\n'
+    said += b"Handlers: 3 began, 1 never ended, 1 failed\n"
+    count.check("what this script expects", handlers_of(log) == said, handlers_of(log))
+    count.exactly("a handler that was cut off, and one that failed", ["judge"], 0, holds(3, 2) + said, b"", log)
+    missing = b'Missed: 2 "x" "y" never came to b\nMissed: 1 of 2 events were missed by a node\n'
+    count.exactly("the same after what was missed", ["judge", "--missed"], 0, holds(3, 2) + missing + said, b"", log)
+    # What begins was handed out: an event that begins twice is a repeat, with or without a line `event`.
+    for first in (b"begun", b"event"):
+        log = first + b" a 1 x y\nbegun a 1 x y\nended a 1 x y 0\n"
+        again = b'Once: line 2 repeats line 1: a 1 "x" "y"\na was handed an event again on 1 line: time 1, line 2\n'
+        text = read(2, 0, 1) + again + NO_QUERIES + NO_FIRINGS + handlers_of(log)
+        count.exactly(f"twice, first {first.decode()}", ["judge"], 1, text, b"", log)
+    count.exactly("an end alone", ["judge"], 0, read(0, 0, 0) + NO_EVENTS + NO_QUERIES + NO_FIRINGS + handlers_of(b"ended a 1 x y 0"), b"", b"ended a 1 x y 0")
+    for name, line, cause in (
+        ("no payload", b"begun a 1 x\n", b"WordCount"),
+        ("a status at the beginning", b"begun a 1 x y 0\n", b"WordCount"),
+        ("no status", b"ended a 1 x y\n", b"WordCount"),
+        ("two statuses", b"ended a 1 x y 0 0\n", b"WordCount"),
+        ("a time that is none", b"begun a t x y\n", b"BadWord 3"),
+        ("a time that is none at the end", b"ended a -1 x y 0\n", b"BadWord 3"),
+    ):
+        bad = b"bad: line 1 " + cause + b"\n"
+        count.exactly(f"handlers: {name}", ["judge"], 1, read(0, 0, 0) + bad + NO_EVENTS + NO_QUERIES + NO_FIRINGS, b"", line)
+    for seed in range(20):
+        log = random_runs(random.Random(seed))
+        got = checks.run_program(["judge"], log)
+        count.check(f"handlers of seed {seed}", got[1].endswith(NO_FIRINGS + handlers_of(log)), (log, got))
+    two_logs_of_runs(count)
+
+
+def random_runs(draw):
+    """A log of handlers that begin and end in any order, some of them twice."""
+    lines = []
+    for _ in range(draw.randint(1, 60)):
+        event = b"%s %d x %s" % (draw.choice([b"a", b"b"]), draw.randint(1, 3), draw.choice([b"y", b"z"]))
+        kind = draw.random()
+        if kind < 0.45:
+            lines.append(b"begun " + event)
+        elif kind < 0.9:
+            lines.append(b"ended " + event + draw.choice([b" 0", b" 0", b" 1", b" 137", b" signal-9"]))
+        else:
+            lines.append(draw.choice([b"# begun a 1 x y", b"restarted a", b"query a 1 7"]))
+    return b"\n".join([*lines, b"begun a 4 x y"]) + b"\n"
+
+
+def two_logs_of_runs(count):
+    """A handler may end in the next log of its node."""
+    with tempfile.TemporaryDirectory() as folder:
+        paths = [os.path.join(folder, name) for name in ("one", "two")]
+        for path, text in zip(paths, (b"begun a 1 x y\nbegun a 2 x y\n", b"2026-11-26 10:00:00 ended a 1 x y 0\n")):
+            with open(path, "wb") as file:
+                file.write(text)
+        got = checks.run_program(["judge", *paths])
+        said = f'Handlers: {paths[0]}:2 began and never ended: a 2 "x" "y"\nHandlers: 2 began, 1 never ended, 0 failed\n'
+        count.check("handlers in two logs", got[0] == 0 and got[1].endswith(said.encode()), got)
+
+
 def firings(count):
     for name, fired, later, log in FIRINGS:
         status = 0 if (fired, later) == (b"holds", b"holds") else 1
@@ -346,42 +425,42 @@ def bad_lines(count):
 def ends_of_lines(count):
     """A carriage return at a line's end, and a byte order mark at the log's front, are read as if they weren't there."""
     mark, log = b"\xef\xbb\xbf", b"event a 1 x y\nfired a 2 x y\n\n# a\nevent b 1 x y\nevent a 1 x y"
-    said = checks.ran(["judge"], log)
+    said = checks.run_program(["judge"], log)
     for name, given in (
         ("carriage returns", log.replace(b"\n", b"\r\n") + b"\r\n"),
         ("one carriage return", log.replace(b"y\nfired", b"y\r\nfired")),
         ("a mark", mark + log),
         ("both", mark + log.replace(b"\n", b"\r\n")),
     ):
-        got = checks.ran(["judge"], given)
+        got = checks.run_program(["judge"], given)
         count.check(f"a log with {name}", said[0] == 1 and got == said, got)
     count.exactly("a mark and a comment", ["judge"], 0, holds(1, 1), b"", mark + b"# a\r\nevent a 1 x y\r\n\r\n")
     # One carriage return is ignored, and one mark, at the front of the first line.
     count.exactly("two carriage returns", ["judge"], 0, holds(2, 1), b"", b"event a 1 x y\r\nevent a 1 x y\r\r\n")
     for log in (mark + mark + b"event a 1 x y\n", b"\n" + mark + b"event a 1 x y\n", mark[:2] + b"event a 1 x y\n"):
-        got = checks.ran(["judge"], log)
+        got = checks.run_program(["judge"], log)
         count.check(f"no mark: {log}", got[0] == 1 and b"\nbad: line" in got[1], got)
 
 
 def dates(count):
     """A date and a time of day in front of a line are printed with the line, and are no words of it; a line of a trace stays one."""
     log = b"event a 1 x y\nquery b 2 3\nfired a 2 x y\nrestarted b\n7 event 0 9 61 62 0\n8 handed 0 1 4 5 61 62\nevent a 1 x y\nx\n"
-    said = checks.ran(["judge"], log)
+    said = checks.run_program(["judge"], log)
     for date, told in ((b"2026-11-26T10:00:00Z",) * 2, (b"2026-11-26 10:00:00,125",) * 2, (b"  2026-11-26  10:00 ", b"2026-11-26 10:00"), (b"0000- 99:",) * 2):
-        got = checks.ran(["judge"], b"".join(date + b" " + line + b"\n" for line in log.splitlines()))
+        got = checks.run_program(["judge"], b"".join(date + b" " + line + b"\n" for line in log.splitlines()))
         wanted = said[1]
         for line in (b"line 7", b"line 1", b"line 3", b"line 8"):
             wanted = re.sub(rb"\b%s\b" % line, line + b" (%s)" % told, wanted)
         count.check(f"a log with {date}", got == (said[0], wanted, said[2]) and b"Once: line 7 (%s) repeats line 1 (%s): a 1" % (told, told) in got[1], (said, got))
     # If there are several lines, the first and the last have theirs, and a line without a date has none.
     log = b"event a 1 x y\n2026-11-26 event a 1 x y\nevent a 1 x y\n2026-11-27 event a 1 x y\n"
-    got = checks.ran(["judge"], log)
+    got = checks.run_program(["judge"], log)
     count.check("dates of some lines", b"Once: line 2 (2026-11-26) repeats line 1: a" in got[1] and b", lines 2 (2026-11-26) to 4 (2026-11-27)\n" in got[1], got)
     for line in (b"202-1 event a 1 x y", b"2026 event a 1 x y z", b"x2026-11-26 event a 1 x y", b"10:00:00 event a 1 x y"):
-        got = checks.ran(["judge"], line + b"\n")
+        got = checks.run_program(["judge"], line + b"\n")
         count.check(f"no date: {line}", got[1].startswith(read(0, 0, 0)) == (b"z" not in line) and (b"bad: line 1" in got[1]) == (b"z" not in line), got)
     for line, why in ((b"2026-11-26 2026-11-26 event a 1 x y", b"(2026-11-26) UnknownWord"), (b"2026-11-26 10:0 11:0 event a 1 x y", b"(2026-11-26 10:0) UnknownWord"), (b"2026-11-26 event a t x y", b"(2026-11-26) BadWord 3")):
-        got = checks.ran(["judge"], line + b"\n")
+        got = checks.run_program(["judge"], line + b"\n")
         count.check(f"one date: {line}", got[0] == 1 and b"\nbad: line 1 " + why + b"\n" in got[1], got)
 
 
@@ -409,7 +488,7 @@ def several_logs(count):
         said += NO_FIRINGS + b"a keeps event-clock 0, and %s:2 was handed out at 1: it can be handed out again\n" % at_a
         said += b"a keeps query-clock 1: nothing was handed out above it\n"
         count.exactly("a snapshot between two logs", ["judge", a, "--kept", "a=" + kept, b], 1, said, b"")
-        got = checks.ran(["judge", b, "-"], checks.read(a))
+        got = checks.run_program(["judge", b, "-"], checks.read(a))
         count.check("standard input after a log", got[0] == 1 and b'Once: %s:4 repeats %s:1: ' % (at_b, at_b) in got[1] and b"QueryOnce: -:3 repeats %s:3" % at_b in got[1], got)
         # A firing in another log counts in either order; one in the same log has to be above.
         (f, at_f), (e, at_e) = log("f", b"fired a 5 x y\nevent b 7 x y\n"), log("e", b"event b 5 x y\nfired b 6 x y\n")
@@ -427,17 +506,17 @@ def several_logs(count):
         said = read(2, 0, 3) + ONCE + NO_QUERIES + b'Fired: %s:1 hands out what no line above it fired: b 1 "x" "y"\nLater: holds\n' % at_below
         for order in ((below, other), (other, below)):
             count.exactly(f"a firing below in the same log: {order}", ["judge", *order], 1, said, b"")
-        got = checks.ran(["judge", below, second])
+        got = checks.run_program(["judge", below, second])
         count.check("a firing below, and one in another log", got[0] == 0 and b"\nFired: holds\n" in got[1], got)
         long, _ = log("long", b"\n" + b"#" * 16777217)
         count.exactly("a line too long in the second", ["judge", a, long], 1, b"", os.fsencode(long) + b": bad line 2 TooLong\n")
         count.exactly("a second that isn't there", ["judge", a, "/nowhere"], 3, b"", b"/nowhere: no such file\n")
         # If a log is cut between any two lines, the verdicts are those on the whole, except for how lines are named.
         lines = checks.read(LOG).splitlines(keepends=True)
-        whole = checks.ran(["judge", LOG])
+        whole = checks.run_program(["judge", LOG])
         for cut in range(1, len(lines)):
             (one, at_one), (two, at_two) = log("one", b"".join(lines[:cut]).removesuffix(b"\n")), log("two", b"".join(lines[cut:]))
-            got = checks.ran(["judge", one, two])
+            got = checks.run_program(["judge", one, two])
             told = whole[1]
             for number in (6, 7):
                 place = b"%s:%d" % ((at_one, number) if number <= cut else (at_two, number - cut))
@@ -448,7 +527,7 @@ def several_logs(count):
 def traces(count):
     path = os.path.join(checks.EXAMPLES, "deploy_gossiped_twice.trace")
     count.exactly("a trace", ["judge", path], 0, holds(2, 2), b"")
-    got = checks.ran(["judge"], checks.read(path) * 2)
+    got = checks.run_program(["judge"], checks.read(path) * 2)
     count.check("a trace after itself", got[0] == 1 and b"\nOnce: line " in got[1], got)
 
 
@@ -464,7 +543,7 @@ def control_characters(count):
         snapshot = os.path.join(folder, "snapshot")
         with open(snapshot, "wb") as file:
             file.write(b"event-clock: 0\n")
-        got = checks.ran(["judge", *paths, "--missed", "--kept", os.fsdecode(node) + "=" + snapshot])
+        got = checks.run_program(["judge", *paths, "--missed", "--kept", os.fsdecode(node) + "=" + snapshot])
     at = os.fsencode(paths[0]).replace(b"\x1b", b"?")
     wanted = (
         b"\nOnce: %s:3 repeats %s:2: %s 1 \"" % (at, at, shown),
@@ -479,4 +558,4 @@ def control_characters(count):
 
 
 if __name__ == "__main__":
-    sys.exit(checks.over_program(incident, repeats, every_repeat, missed, leave, long_logs, not_asked, kept, firings, bad_lines, ends_of_lines, dates, several_logs, traces, control_characters))
+    sys.exit(checks.over_program(incident, repeats, every_repeat, missed, leave, long_logs, not_asked, kept, handlers, firings, bad_lines, ends_of_lines, dates, several_logs, traces, control_characters))

@@ -107,14 +107,14 @@ class Agent:
 def clock_of(snapshot, rejoins):
     """The event clock that `clocks` prints for a start, or None if it printed none."""
     words = b"" if rejoins else b"without -rejoin: "
-    status, out, _ = checks.ran(["clocks", snapshot])
+    status, out, _ = checks.run_program(["clocks", snapshot])
     clocks = dict(re.findall(rb"^(without -rejoin: )?event-clock (\d+)$", out, re.M))
     return int(clocks.get(words, clocks[b""])) if status == 0 else None
 
 
 def can_come_again(agent, snapshot, rejoins):
     """What `judge` reports for a start: whether something can be handed out again. None if it reports nothing about it."""
-    status, out, err = checks.ran(["judge", agent.log, "--kept", f"gamma={snapshot}"])
+    status, out, err = checks.run_program(["judge", agent.log, "--kept", f"gamma={snapshot}"])
     how = b"" if b"with -rejoin keeps" not in out else b" with -rejoin" if rejoins else b" without -rejoin"
     said = re.findall(rb"^gamma%s keeps event-clock \d+(.*)$" % how, out, re.M)
     return said[0].endswith(b"it can be handed out again") if len(said) == 1 else None

@@ -46,7 +46,7 @@ CALLS = 6
 
 
 def random_schedule(kind, seed):
-    status, schedule, said = checks.ran(["random", str(seed), "--kind", kind])
+    status, schedule, said = checks.run_program(["random", str(seed), "--kind", kind])
     if status:
         raise RuntimeError(f"random {seed} --kind {kind}: {said}")
     return schedule
@@ -65,7 +65,7 @@ def lines_of(schedule):
 @functools.cache
 def trace_of(schedule):
     """What the trace shows for each action, and the packets that were sent, by their numbers; None if the schedule is refused."""
-    status, trace, _ = checks.ran(["replay"], schedule)
+    status, trace, _ = checks.run_program(["replay"], schedule)
     if status:
         return None
     shown, packets = {}, []
@@ -195,19 +195,19 @@ def schedules(asked):
 
 
 def main():
-    words = argparse.ArgumentParser()
-    words.add_argument("--seeds", default="1-4")
-    words.add_argument("files", nargs="*")
-    asked = words.parse_args()
+    parser = argparse.ArgumentParser()
+    parser.add_argument("--seeds", default="1-4")
+    parser.add_argument("files", nargs="*")
+    options = parser.parse_args()
 
     def held(count):
-        given, total = schedules(asked), 0
+        given, total = schedules(options), 0
         for name, schedule in given:
             fault, compared = differs(schedule)
             count.check(name, not fault, fault)
             total += compared
         print(f"{total} calls compared")
-        if not asked.files:
+        if not options.files:
             kept(count)
             for name, fault in (("the switches", unshown(given)), ("fewer calls", unshrunk())):
                 count.check(name, not fault, fault)

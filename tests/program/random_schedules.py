@@ -128,12 +128,12 @@ REFUSED = (
 )
 
 
-def ran(words, given=b""):
+def run_program(words, given=b""):
     return subprocess.run([checks.PROGRAM, *words], input=given, capture_output=True, timeout=checks.LIMIT)
 
 
 def schedule_of(seed, kind, *words):
-    return ran(["random", str(seed), "--kind", kind, "--actions", str(ACTIONS), *words])
+    return run_program(["random", str(seed), "--kind", kind, "--actions", str(ACTIONS), *words])
 
 
 def first_line(seed, kind, rules=""):
@@ -158,7 +158,7 @@ def wrong_seed(seed, kind, made, again):
     many = actions_in(made.stdout)
     if many > ACTIONS or many < ACTIONS and kind != "rounds":
         return f"it has {many} actions"
-    replayed = ran(["replay"], made.stdout)
+    replayed = run_program(["replay"], made.stdout)
     if replayed.returncode or replayed.stderr:
         return f"replay: status {replayed.returncode}: {replayed.stderr}"
     answered = {line.split(b" ")[0] for line in replayed.stdout.splitlines()}
@@ -173,7 +173,7 @@ def wrong_common(seed, kind, made):
         return "its first line isn't what was requested"
     if actions_in(made.stdout) > ACTIONS:
         return f"it has {actions_in(made.stdout)} actions"
-    replayed = ran(["replay"], made.stdout)
+    replayed = run_program(["replay"], made.stdout)
     if replayed.returncode or replayed.stderr:
         return f"replay: status {replayed.returncode}: {replayed.stderr}"
     own = OWN_ANSWER.search(replayed.stdout) or TAIL.search(made.stdout) or KEEPS.search(made.stdout)
@@ -207,7 +207,7 @@ def common_schedules(count):
 def largest(kind):
     """What is wrong with the largest schedule of a kind, or None."""
     began = checks.processor_seconds()
-    made = ran(["random", "1", "--kind", kind, "--agents", "4", "--actions", "100000000"])
+    made = run_program(["random", "1", "--kind", kind, "--agents", "4", "--actions", "100000000"])
     seconds = checks.processor_seconds() - began
     print(f"{kind}: {len(made.stdout)} bytes and {actions_in(made.stdout)} actions in {seconds:.2f} processor seconds")
     if made.returncode:
@@ -238,7 +238,7 @@ def largest_schedules(count):
 def rounds_without_room(count):
     """If the maximum size ends the rounds, the program prints that; otherwise it prints nothing."""
     for agents, said in (("10000", b"random: a schedule has at most 16777216 bytes, so the last rounds may be missing\n"), ("1000", b"")):
-        made = ran(["random", "1", "--kind", "rounds", "--agents", agents, "--fanout", "16"])
+        made = run_program(["random", "1", "--kind", "rounds", "--agents", agents, "--fanout", "16"])
         is_full = checks.LONGEST - 4096 < len(made.stdout) <= checks.LONGEST
         count.check(f"rounds of {agents} agents", (made.returncode, made.stderr, is_full) == (0, said, bool(said)), (made.stderr, len(made.stdout)))
 
@@ -257,41 +257,41 @@ def rounds_spread(count):
     """In rounds, no packet is sent more often than the options allow, and without losses each agent gets each event."""
     words = ["--kind", "rounds", "--agents", "100", "--actions", "100000", "--rounds", "30"]
     for fanout, loss in ((1, 0), (3, 0), (3, 50), (16, 99)):
-        made = ran(["random", "5", *words, "--fanout", str(fanout), "--loss", str(loss)])
+        made = run_program(["random", "5", *words, "--fanout", str(fanout), "--loss", str(loss)])
         name, sends = f"fanout {fanout} and loss {loss}", sends_in(made.stdout)
         same_bytes(count, name, [made.stdout])
-        most = max((many for sent in sends.values() for many in Counter(packet for packet, _ in sent).values()), default=0)
-        count.check(f"{name}: no packet goes to more in a round", made.returncode == 0 and most <= fanout, most)
+        maximum = max((many for sent in sends.values() for many in Counter(packet for packet, _ in sent).values()), default=0)
+        count.check(f"{name}: no packet goes to more in a round", made.returncode == 0 and maximum <= fanout, maximum)
         count.check(f"{name}: rounds in order", list(sends) == sorted(sends) and max(sends, default=0) <= 30, list(sends))
-        events = ran(["replay"], made.stdout).stdout.count(b" event ")
+        events = run_program(["replay"], made.stdout).stdout.count(b" event ")
         fired = sum(line.startswith(b"fire ") for line in made.stdout.splitlines())
         count.check(f"{name}: which agents got the events", (events == 100 * fired) if (fanout, loss) == (3, 0) else events >= fired, (events, fired))
-    said = ran(["random", "5", *words])
-    count.check("the same words generate it again", ran(said.stdout.split(b" version")[0].decode().split(" ")[1:]).stdout == said.stdout)
+    said = run_program(["random", "5", *words])
+    count.check("the same words generate it again", run_program(said.stdout.split(b" version")[0].decode().split(" ")[1:]).stdout == said.stdout)
 
 
 def all_rounds(count):
     """All requested rounds are generated, unless a number of actions ends them; and the words of the comment generate them again."""
     for agents, rounds in ((40, 10), (300, 12)):
         words = ["random", "3", "--kind", "rounds", "--agents", str(agents), "--rounds", str(rounds)]
-        made, whole, cut = (ran([*words, *more]).stdout for more in ([], ["--actions", "10000000"], ["--actions", "200"]))
+        made, whole, cut = (run_program([*words, *more]).stdout for more in ([], ["--actions", "10000000"], ["--actions", "200"]))
         name, body = f"{agents} agents, {rounds} rounds", made.partition(b"\n")[2]
         count.check(f"{name}: no limit", body == whole.partition(b"\n")[2] and actions_in(made) > 200, actions_in(made))
         count.check(f"{name}: to the last round", max(sends_in(made), default=0) >= rounds - 1, list(sends_in(made)))
         count.check(f"{name}: 200 actions", actions_in(cut) == 200 and body.startswith(cut.partition(b"\n")[2]), actions_in(cut))
-        count.check(f"{name}: its words again", ran(made.split(b" version")[0].decode().split(" ")[1:]).stdout == made)
+        count.check(f"{name}: its words again", run_program(made.split(b" version")[0].decode().split(" ")[1:]).stdout == made)
 
 
 def kept_lines(count):
     """Schedules of `kept`: agents of each MODE with small buffers, and tails of each form; events in them that were sent, and others."""
     modes, forms, events = Counter(), Counter(), Counter()
     for seed in KEPT_SEEDS:
-        made = ran(["random", str(seed), "--kind", "kept", "--actions", str(KEPT_ACTIONS)]).stdout
+        made = run_program(["random", str(seed), "--kind", "kept", "--actions", str(KEPT_ACTIONS)]).stdout
         lines = [line.split(b" ") for line in made.splitlines()]
         modes.update(words[6].decode() for words in lines if words[0] == b"agent")
         slots = [int(word) for words in lines if words[0] == b"agent" for word in words[2:4]]
         count.check(f"kept {seed}: buffers of 1 to 8", 1 <= min(slots) and max(slots) <= 8, slots)
-        sent = set(re.findall(rb"^\d+ event \d+ (\d+ \S+ \S+) [01]$", ran(["replay"], made).stdout, re.M))
+        sent = set(re.findall(rb"^\d+ event \d+ (\d+ \S+ \S+) [01]$", run_program(["replay"], made).stdout, re.M))
         tails = [words[2] for words in lines if words[0] == b"restart"]
         forms["none"] += tails.count(b"-")
         for tail in tails:
@@ -309,7 +309,7 @@ def kept_lines(count):
 
 def refused(count):
     for words, status in REFUSED:
-        got = ran(words)
+        got = run_program(words)
         count.check(" ".join(words), (got.returncode, got.stdout) == (status, b""), f"status {got.returncode}")
 
 

@@ -106,21 +106,21 @@ def of_editors(count):
         file.flush()
         for words in (["replay"], ["replay", "--stream"], ["replay", "--summary"], ["replay", "--summary", "--stream"], ["explain"], ["explain", "--stream"], ["explain", "--agent", "0"], ["draw"], ["conform"]):
             plain = os.path.join(checks.EXAMPLES, "deploy_gossiped_twice.schedule")
-            got, wanted = checks.ran([*words, file.name]), checks.ran([*words, plain])
+            got, wanted = checks.run_program([*words, file.name]), checks.run_program([*words, plain])
             count.check(f"a file of an editor: {words}", got == wanted and wanted[1], got)
             for name, text in (("carriage returns", crlf), ("a mark", mark + schedule), ("a mark and a comment", mark + b"# x\r\n\r\n" + crlf)):
                 if words[0] != "conform":
-                    got = checks.ran(words, text)
+                    got = checks.run_program(words, text)
                     count.check(f"{name}: {words}", got == wanted, got)
     for name, text in (("a mark alone", mark), ("a mark and a carriage return", mark + b"\r\n")):
         count.exactly(name, ["replay"], 0, b"", b"", text)
-    with subprocess.Popen([checks.PROGRAM, "replay", "--stream"], stdin=subprocess.PIPE, stdout=subprocess.PIPE) as run:
+    with subprocess.Popen([checks.PROGRAM, "replay", "--stream"], stdin=subprocess.PIPE, stdout=subprocess.PIPE) as process:
         for part in (mark[:1], mark[1:2], mark[2:] + b"# x\r", b"\n" + schedule):
-            run.stdin.write(part)
-            run.stdin.flush()
+            process.stdin.write(part)
+            process.stdin.flush()
             time.sleep(0.1)
-        run.stdin.close()
-        count.check("a mark that arrives by itself", run.stdout.read() == checks.read("examples", "deploy_gossiped_twice.trace"))
+        process.stdin.close()
+        count.check("a mark that arrives by itself", process.stdout.read() == checks.read("examples", "deploy_gossiped_twice.trace"))
 
 
 def faults(count):
@@ -137,7 +137,7 @@ def faults(count):
     path = os.path.join(checks.EXAMPLES, "deploy_gossiped_twice.written")
     hint = b"if this is a written schedule, run: serf-replay write %s | serf-replay replay\n" % os.fsencode(path)
     for words in (["replay"], ["replay", "--stream"], ["replay", "--summary"], ["explain"], ["explain", "--agent", "alpha"], ["draw"], ["conform"]):
-        got = checks.ran([*words, path])
+        got = checks.run_program([*words, path])
         count.check(f"a written schedule: {words}", got[:2] == (1, b"") and got[2].startswith(b"bad line ") and got[2].endswith(b"\n" + hint), got)
 
 
@@ -155,11 +155,11 @@ def on_a_terminal(words, given=b""):
 
     reader = threading.Thread(target=show)
     reader.start()
-    ran = subprocess.run([checks.PROGRAM, *words], input=given, stdout=subprocess.PIPE, stderr=theirs, timeout=checks.LIMIT)
+    result = subprocess.run([checks.PROGRAM, *words], input=given, stdout=subprocess.PIPE, stderr=theirs, timeout=checks.LIMIT)
     os.close(theirs)
     reader.join(60)
     os.close(ours)
-    return ran.returncode, ran.stdout, b"".join(shown)
+    return result.returncode, result.stdout, b"".join(shown)
 
 
 # What a cause of a bad line means, as a terminal shows it.
@@ -214,7 +214,7 @@ def long_run_on_a_terminal(count):
         actions *= 2
         schedule = long_schedule(actions)
         before = time.monotonic()
-        piped = checks.ran(["replay"], schedule)
+        piped = checks.run_program(["replay"], schedule)
         took = time.monotonic() - before
     count.check("a long run", piped[::2] == (0, b""), piped[::2])
     count.check("its trace", piped[1].endswith(b"\n%d merged\n" % actions), piped[1][-100:])
@@ -259,7 +259,7 @@ def jobs_on_a_terminal(count):
         while took < 3 and many < 1_000_000:
             many *= 2
             before = time.monotonic()
-            piped = checks.ran(*job(many))
+            piped = checks.run_program(*job(many))
             took = time.monotonic() - before
         status, out, shown = on_a_terminal(*job(many))
         lines = shown.decode("ascii", "replace").splitlines()
@@ -274,13 +274,13 @@ def slow_input_on_a_terminal(count):
     """While slow input arrives, the number of bytes is printed."""
     for words in (["judge"], ["decode"], ["replay", "--stream"]):
         ours, theirs = pty.openpty()
-        with subprocess.Popen([checks.PROGRAM, *words], stdin=subprocess.PIPE, stdout=subprocess.DEVNULL, stderr=theirs) as run:
+        with subprocess.Popen([checks.PROGRAM, *words], stdin=subprocess.PIPE, stdout=subprocess.DEVNULL, stderr=theirs) as process:
             for _ in range(3):
-                run.stdin.write(b"# 4\n" if words[0] != "decode" else b"00\n\n")
-                run.stdin.flush()
+                process.stdin.write(b"# 4\n" if words[0] != "decode" else b"00\n\n")
+                process.stdin.flush()
                 time.sleep(1.2)
-            run.stdin.close()
-            run.wait(60)
+            process.stdin.close()
+            process.wait(60)
         os.close(theirs)
         shown = b""
         try:
@@ -308,7 +308,7 @@ def no_memory(count):
     """If memory is short, only the error is written."""
     schedule = b"agent 61 4 4 512 8 keep\n" + b"fire 0 78 - 0\n" * 100_000
     some = 12 * 1024 * 1024
-    ran = subprocess.run(
+    result = subprocess.run(
         [checks.PROGRAM, "replay"],
         input=schedule,
         capture_output=True,
@@ -316,9 +316,9 @@ def no_memory(count):
         preexec_fn=lambda: resource.setrlimit(resource.RLIMIT_AS, (some, some)),
     )
     count.check(
-        "a run without memory", (ran.returncode, ran.stdout, ran.stderr) == (3, b"", b"out of memory\n"), str(ran)[-300:]
+        "a run without memory", (result.returncode, result.stdout, result.stderr) == (3, b"", b"out of memory\n"), str(result)[-300:]
     )
-    status, out, err = checks.ran(["replay"], schedule)
+    status, out, err = checks.run_program(["replay"], schedule)
     count.check(
         "the same run with memory", (status, err) == (0, b"") and out.count(b" fired ") == 100_000, (status, err)
     )
@@ -359,7 +359,7 @@ ROWS = [
 
 def summaries_for_machines(count):
     """The rows of a summary, as CSV, and words that are refused. JSON is in json_output.py."""
-    status, out, err = checks.ran(["replay", "--summary", "--format", "csv"], ROWS_SCHEDULE)
+    status, out, err = checks.run_program(["replay", "--summary", "--format", "csv"], ROWS_SCHEDULE)
     rows = [{name: value for name, value in row.items() if value} for row in csv.DictReader(out.decode().splitlines())]
     wanted = [{name: str(value) for name, value in row.items()} for row in ROWS]
     count.check("as CSV", (status, rows, err) == (0, wanted, b""), out)

@@ -85,10 +85,10 @@ def wrong_facts(schedule, facts, trace):
 
 def said_by(command, given, program=checks.PROGRAM):
     """The status of a command on a text, and what it writes on standard output and on standard error."""
-    ran = subprocess.run([program, command], input=given.encode("ascii"), capture_output=True, timeout=checks.LIMIT)
-    lines = ran.stderr.decode("ascii", "replace").splitlines(True)
+    result = subprocess.run([program, command], input=given.encode("ascii"), capture_output=True, timeout=checks.LIMIT)
+    lines = result.stderr.decode("ascii", "replace").splitlines(True)
     err = "".join(line for line in lines if not line.startswith(UNPROVED))
-    return ran.returncode, ran.stdout.decode("ascii", "replace"), err
+    return result.returncode, result.stdout.decode("ascii", "replace"), err
 
 
 def wrong(name, said):

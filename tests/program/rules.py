@@ -18,7 +18,7 @@ import checks
 
 sys.path.insert(0, os.path.join(checks.TOP, "tests", "program", "rules"))
 import keeping
-from one_agent import AGENT, ASK, BREAK, FIRE, GREATEST, answer, answers, deliver, event, merge, query, rows_of, state
+from one_agent import AGENT, ASK, BREAK, FIRE, MAX_UINT64, answer, answers, deliver, event, merge, query, rows_of, state
 
 IGNORING = "agent 61 4 4 512 8 ignore"
 
@@ -108,7 +108,7 @@ CASES = {
     ],
     "the time of an answer": [
         (deliver(answer(50, 1, b"b"), 100), "ignored NotOpen"),
-        (deliver(answer(GREATEST, 1, b"b", 1), 100), "ignored NotOpen"),
+        (deliver(answer(MAX_UINT64, 1, b"b", 1), 100), "ignored NotOpen"),
         (FIRE, fired(1)),
         (ASK, asked(1)),
     ],
@@ -125,7 +125,7 @@ CASES = {
     ],
     "lines that are skipped": [
         (
-            "restart " + b"event-clock: 9\r\nevent-clock:  9\nevent-clock: +9\nevent-clock: %d\nclock: 2\n".replace(b"%d", str(GREATEST).encode()).hex(),
+            "restart " + b"event-clock: 9\r\nevent-clock:  9\nevent-clock: +9\nevent-clock: %d\nclock: 2\n".replace(b"%d", str(MAX_UINT64).encode()).hex(),
             "restarted 3 1 1",
         ),
     ],
@@ -261,12 +261,12 @@ CASES = {
     "a deadline": [
         (deliver(query(1, 1, timeout=-5), 100), "query, sent, handed 0 0 1 1 71 -"),
         (deliver(query(2, 2, timeout=0), 100), "query, sent, handed 0 1 2 2 71 -"),
-        (deliver(query(3, 3, timeout=5), GREATEST), "query, sent, handed 0 2 3 3 71 -"),
+        (deliver(query(3, 3, timeout=5), MAX_UINT64), "query, sent, handed 0 2 3 3 71 -"),
         ("respond 0 101 -", "refused PastDeadline"),
         ("respond 0 100 -", "replied, sent"),
         ("respond 1 101 -", "refused PastDeadline"),
         ("respond 1 100 -", "replied, sent"),
-        (f"respond 2 {GREATEST} -", "replied, sent"),
+        (f"respond 2 {MAX_UINT64} -", "replied, sent"),
     ],
     "at the deadline": [
         (ASK_FOR_ACKS, ASKED_FOR_ACKS),
@@ -413,9 +413,9 @@ def slots_after(*times, names=(b"x",), agent=AGENT):
     these names at each of these times."""
     packets = [event(time, name) for time in times for name in names]
     calls = "".join(f"inject {packet.hex()}\ndeliver 0 {2 * at} 0\n" for at, packet in enumerate(packets))
-    out = checks.ran(["replay"], f"{agent}\n{calls}state 0\n".encode())[1].decode()
+    out = checks.run_program(["replay"], f"{agent}\n{calls}state 0\n".encode())[1].decode()
     packet = out.splitlines()[-1].split(" ")[-1]
-    lines = checks.ran(["decode", packet])[1].decode().splitlines()
+    lines = checks.run_program(["decode", packet])[1].decode().splitlines()
     return [tuple(line.split(" ")[1:]) for line in lines if line.startswith("slot ") and not line.endswith("nil")], lines
 
 
@@ -440,7 +440,7 @@ def kept_after(*calls, agent=AGENT, opened="opened 1 1 1"):
     with tempfile.NamedTemporaryFile("w", suffix=".schedule") as schedule:
         schedule.write(f"{agent}\n{lines}")
         schedule.flush()
-        said = checks.ran(["conform", schedule.name], f"{opened}\n\nunsupported\n\n{answered}looked\n\n".encode())[2].decode()
+        said = checks.run_program(["conform", schedule.name], f"{opened}\n\nunsupported\n\n{answered}looked\n\n".encode())[2].decode()
     found = re.search(r"^ +kept (\S+)$", said, re.M)
     return bytes.fromhex(found[1].replace("-", "")).decode() if found else said
 

@@ -46,9 +46,9 @@ class Kind:
         self.read, self.shapes = read, shapes
 
 
-def number(below, least=0):
+def number(below, minimum=0):
     def read(word):
-        return str(int(word)) if re.fullmatch("[0-9]+", word) and least <= int(word) < below else None
+        return str(int(word)) if re.fullmatch("[0-9]+", word) and minimum <= int(word) < below else None
 
     return Kind(read, "NUMBERS")
 
@@ -204,11 +204,11 @@ def cases():
 
 def differs(case, traces):
     """What is different in the program's result for a case, or None."""
-    status, out, said = checks.ran(["replay"], case["schedule"].encode("latin-1"))
+    status, out, said = checks.run_program(["replay"], case["schedule"].encode("latin-1"))
     if case["fault"]:
         return None if (status, out, said) == (1, b"", case["fault"].encode() + b"\n") else (status, said)
     if case["plain"] not in traces:
-        traces[case["plain"]] = checks.ran(["replay"], case["plain"].encode("latin-1"))
+        traces[case["plain"]] = checks.run_program(["replay"], case["plain"].encode("latin-1"))
     return None if (status, out, said) == traces[case["plain"]] and status == 0 else (status, said)
 
 

@@ -1,13 +1,15 @@
-"""The page that `examples/timeline/timeline.py` makes, in a real browser: every example loads without an error, and its page has the
-program's JSON and nothing else. Also steps, clicks, the search, the filters, what ran twice, both kinds of lanes side by side, names that
-try to run, the page without its script, and a run of 100,000 actions.
+"""The page that `serf-replay timeline` makes, in a real browser: every example loads without an error, and its page has the program's JSON
+and nothing else. Also steps, clicks, the search, the filters, what ran twice, both kinds of lanes side by side, names that try to run, the
+page without its script, and a run of 100,000 actions. The fixed parts of the page are the files in `examples/timeline`.
 
 If no Chromium is installed, the parts that need it are not run (tools/packages installs it).
 """
 
 import atexit
+import base64
 import contextlib
 import glob
+import hashlib
 import json
 import os
 import re
@@ -23,10 +25,8 @@ import checks
 import pages
 
 FOLDER = os.path.join(checks.EXAMPLES, "timeline")
-SCRIPT = os.path.join(FOLDER, "timeline.py")
-
-sys.path.insert(0, FOLDER)
-import timeline
+PARTS = os.path.join(checks.TOP, "tools", "page_parts.py")
+SCHEDULE = os.path.join(checks.EXAMPLES, "deploy_gossiped_twice.schedule")
 
 INCIDENT = os.path.join(checks.EXAMPLES, "incident")
 LOG = os.path.join(INCIDENT, "handlers.log")
@@ -67,7 +67,7 @@ def made(folder, name, *words):
     """The path of the page for these words."""
     path = os.path.join(folder, name + ".html")
     with open(path, "wb") as file:
-        subprocess.run([sys.executable, SCRIPT, "--program", checks.PROGRAM, *words], stdout=file, check=True, timeout=checks.LIMIT)
+        subprocess.run([checks.PROGRAM, "timeline", *words], stdout=file, check=True, timeout=checks.LIMIT)
     return path
 
 
@@ -106,18 +106,42 @@ def in_page(path, name):
     return found[1] if found else ""
 
 
+def page_of(*words, given=None):
+    """The text of the page for these words."""
+    return printed("timeline", *words, given=given).decode()
+
+
 def check_source(check):
     """The script can make no markup of data, and the page allows no other script."""
     script = checks.text_of(FOLDER, "timeline.js")
     found = MARKUP.findall(script)
     check.check("the script makes no markup and no code of data", not found, found)
     check.check(f"the script has fewer than {LINES} lines", len(script.splitlines()) < LINES, len(script.splitlines()))
-    page = timeline.page("x", b"", b"", "")
+    result = subprocess.run([sys.executable, PARTS, "--check"], capture_output=True, text=True, timeout=checks.LIMIT)
+    check.check("the program has the page's files", result.returncode == 0, result.stderr)
+    page = page_of(SCHEDULE, "--title", "<b>")
     policy = re.search(r'Content-Security-Policy" content="([^"]*)"', page)[1]
     check.check("only the page's own script may run", "default-src 'none'" in policy and policy.count("'sha256-") == 1 and "script-src 'sha256-" in policy, policy)
-    hostile = timeline.data("x", b'{"name":"</script>"}\n')
-    check.check("data can't end its element", "</script>" not in hostile[:-len("</script>\n")] and json.loads(hostile.splitlines()[1])["name"] == "</script>", hostile)
-    check.check("a title is text", "<b>" not in timeline.page("<b>", b"", b"", "").partition("<style>")[0])
+    digest = base64.b64encode(hashlib.sha256(script.encode()).digest()).decode()
+    check.check("the policy has the hash of the script", f"'sha256-{digest}'" in policy, policy)
+    check.check("the page has the script and the style", f"<script>{script}</script>" in page and checks.text_of(FOLDER, "timeline.css") in page)
+    check.check("a title is text", "<b>" not in page and page.count("&lt;b&gt;") == 2)
+
+
+def check_words(check):
+    """What the command accepts."""
+    for words, status, said in (
+        ((), 2, "a schedule, or a log after --log"),
+        (("--log", "no_such.log"), 3, "no_such.log: no such file"),
+        (("no_such.schedule",), 3, "no_such.schedule: no such file"),
+        (("--log", LOG, "--kept", "beta"), 2, "--kept needs NODE=SNAPSHOT"),
+        ((LOG,), 1, "bad line"),
+    ):
+        result = subprocess.run([checks.PROGRAM, "timeline", *words], capture_output=True, text=True, timeout=checks.LIMIT)
+        check.check(f"timeline {' '.join(map(os.path.basename, words))}", result.returncode == status and said in result.stderr and not result.stdout, result)
+    check.check("a schedule on standard input", page_of("-", "--title", "x", given=checks.read(SCHEDULE)) == page_of(SCHEDULE, "--title", "x"))
+    check.check("a log on standard input", "line 7" in page_of("--log", "-", given=checks.read(LOG)))
+    check.check("the title names the files", f"<h1>Timeline of {LOG} {SCHEDULE}</h1>" in page_of(SCHEDULE, "--log", LOG))
 
 
 def check_examples(check, page, folder):
@@ -274,14 +298,18 @@ def check_hostile(check, page, folder):
 
 
 def check_still(check, page, folder):
-    """Without its script the page is a picture and a table; light and dark; narrow."""
+    """Without its script the page has a verdict, a table of the logs, a picture and a text of the run; light and dark; narrow."""
     at = made(folder, "still", os.path.join(INCIDENT, "as_serf_kept.written"), "--log", LOG, "--kept", KEPT)
     page.size(1200, 900, scripts=False)
     page.open(at)
-    check.check("the verdict without the script", "beta ran deploy v2 @3 twice: line 6, and again line 7" in text_in(page, "#verdict"))
-    check.check("pictures without the script", page.run("[...document.images].filter((one) => one.complete && one.naturalWidth > 100).length") == 2)
-    table = text_in(page, "#still table")
-    check.check("a table without the script", "line 6, and again line 7" in table and "never" not in table.partition("deploy v2")[2], table)
+    judged = printed("judge", LOG, "--kept", KEPT, "--missed").decode()
+    check.check("the verdict without the script is that of judge", text_in(page, "#verdict li.bad pre") == judged, text_in(page, "#verdict"))
+    check.check("a picture without the script", page.run("[...document.images].filter((one) => one.complete && one.naturalWidth > 100).length") == 1)
+    rows = page.run("[...document.querySelectorAll('#still tr')].map((row) => [...row.cells].map((cell) => cell.textContent + (cell.className && '!')).join('|')).join('\\n')")
+    check.check("a row for each line without the script", rows.count("\n") == 7 and rows.splitlines()[7] == 'line 7||again: "deploy" "v2" @3!|', rows)
+    schedule = printed("write", os.path.join(INCIDENT, "as_serf_kept.written"))
+    text = printed("replay", "-", "--format", "text", given=schedule).decode()
+    check.check("the text of the run without the script", text_in(page, "#still pre") == text, text_in(page, "#still pre"))
     colours = []
     for dark in (False, True):
         page.size(420, 900, dark=dark)
@@ -308,9 +336,10 @@ def long_run(path):
             lines.append({"kind": "event", **who, **event, "coalesce": False})
             lines.append({"kind": "reason", **who, "code": answer, "text": "it is new", **event})
             lines.append({"kind": "state", **who, "event_clock_before": action, "event_clock": action + 1, "snapshot_from": 0, "snapshot": "", "snapshot_hex": ""})
-    data = "".join(json.dumps({"version": 1, **line}, separators=(",", ":")) + "\n" for line in lines).encode()
+    data = "".join(json.dumps({"version": 1, **line}, separators=(",", ":")) + "\n" for line in lines)
+    start, _, rest = page_of(SCHEDULE).partition('id="run-data">\n')
     with open(path, "w", encoding="utf-8") as file:
-        file.write(timeline.page("long", b"", data, ""))
+        file.write(f'{start}id="run-data">\n{data}</script>{rest.partition("</script>")[2]}')
 
 
 def check_long(check, page, folder):
@@ -354,13 +383,12 @@ def check_shown(check):
         at = os.path.join(folder, name)
         if name == "handlers.svg":
             for example in ("incident", "partition", "leave"):
-                done = subprocess.run(["sh", "-ec", text], cwd=os.path.join(checks.EXAMPLES, example), env=paths, capture_output=True, timeout=checks.LIMIT)
-                check.check(f"{command.name()}: {example}", done.stdout == checks.read("examples", example, name), done.stderr)
+                result = subprocess.run(["sh", "-ec", text], cwd=os.path.join(checks.EXAMPLES, example), env=paths, capture_output=True, timeout=checks.LIMIT)
+                check.check(f"{command.name()}: {example}", result.stdout == checks.read("examples", example, name), result.stderr)
             continue
-        words = f"{text} --program {link} > {at}"
-        done = subprocess.run(["sh", "-ec", words], cwd=checks.TOP, capture_output=True, text=True, timeout=checks.LIMIT)
-        is_whole = done.returncode == 0 and checks.read(at).endswith(b"</html>\n")
-        check.check(command.name(), is_whole and not done.stderr, done.stderr)
+        result = subprocess.run(["sh", "-ec", f"{text} > {at}"], cwd=checks.TOP, env=paths, capture_output=True, text=True, timeout=checks.LIMIT)
+        is_whole = result.returncode == 0 and checks.read(at).endswith(b"</html>\n")
+        check.check(command.name(), is_whole and not result.stderr, result.stderr)
 
 
 def check_in_browser(check):
@@ -377,4 +405,4 @@ def check_in_browser(check):
 
 
 if __name__ == "__main__":
-    sys.exit(checks.over_program(check_source, check_shown, check_in_browser))
+    sys.exit(checks.over_program(check_source, check_words, check_shown, check_in_browser))

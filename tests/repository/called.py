@@ -22,7 +22,6 @@ from checks import TOP
 
 # The laws that no code, proof, page or wrong body names, and what each says to the reader of its crate.
 STATED = {
-    "serf_agent_c::host_steps": "what each export leaves of the ideal agent and of the host's file",
     "serf_draw::coded_laws": "no text breaks out of its place in a diagram of Mermaid",
     "serf_draw::escape_laws": "no text breaks out of its place in a picture",
     "serf_model::handed_queries": "a delivery and a merge leave the queries that were handed to their agent",
@@ -31,6 +30,7 @@ STATED = {
     "serf_wire::canonical_intents": "what `encode_intent` writes is read back",
     "serf_wire::exact_filters": "the filters of contracts are the relation `Passes`",
     "serf_wire::exact_intents": "reading an intent is exact",
+    "serf_timeline::escape_laws": "no text breaks out of its place in a page",
 }
 
 COMMENT = re.compile(r"//[^\n]*|b?\"(?:\\.|[^\"\\])*\"|b?'(?:\\.|[^'\\])'", re.S)

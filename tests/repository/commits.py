@@ -21,8 +21,8 @@ OWN = os.path.join("tests", "repository", "commits.py")
 
 def git(top, *words):
     """What git prints, or None if it fails."""
-    ran = subprocess.run(["git", "-C", top, *words], stdin=subprocess.DEVNULL, capture_output=True, text=True, errors="replace")
-    return ran.stdout if ran.returncode == 0 else None
+    result = subprocess.run(["git", "-C", top, *words], stdin=subprocess.DEVNULL, capture_output=True, text=True, errors="replace")
+    return result.stdout if result.returncode == 0 else None
 
 
 def subjects_since(top, path):

@@ -180,11 +180,15 @@ def conditions(page):
 
 
 def things_to_add():
-    """Each thing that `tools/to_add.py` knows, and what is wrong with it, or None: files of a crate and of a binding name it."""
+    """Each thing that `tools/to_add.py` knows, and what is wrong with it, or None: files of a crate and of a binding name it.
+
+    A binding for a language changes no crate, so files of the bindings, of their tests and of the pages name it.
+    """
     for thing in to_add.THINGS:
         found = list(to_add.files_of(thing))
         folders = {path.split("/")[0] for path in found}
-        yield thing, None if {"crates", "bindings"} <= folders else f"is named in {sorted(folders)} only"
+        needed = {"bindings", "docs", "release", "tests"} if thing == "binding" else {"bindings", "crates"}
+        yield thing, None if needed <= folders else f"is named in {sorted(folders)} only"
 
 
 # What the scripts of tests/ share, outside of their folders.
@@ -216,7 +220,7 @@ def rows_of_gate(crates):
     yield "its rows", None if len(re.findall(r"^ *[-\d]", text_of("tools", "gate.rows"), re.M)) == len(rows) else "name one thing twice"
     scripts = [path for path in glob.glob("tests/*/*.py", root_dir=TOP) if not path.startswith("tests/by_hand/")]
     for name in [*scripts, gate.MUTANTS]:
-        yield name, None if name in gate.wanted() else "has no minimum number of checks"
+        yield name, None if name in gate.minimum_counts() else "has no minimum number of checks"
     for name in [*crates, *gate.PARTS]:
         yield name, None if rows.get(name, [0, 0])[1] else "has no processor seconds"
     known = {*scripts, *crates, *gate.PARTS}
@@ -296,7 +300,7 @@ def checks_of(tree, jobs, document):
 
 def named(count):
     tree, jobs = Tree(), jobs_of_program()
-    for path, is_made in calling.made():
+    for path, is_made in calling.check_pages():
         count.check(path, is_made, "is outdated: run tools/calling.py")
     for what, fault, path in figures_twice(documents()):
         count.check(f"{path}: `{what}`", fault is None, fault)

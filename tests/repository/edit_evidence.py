@@ -290,9 +290,9 @@ class Run(mutants.Run):
         self.is_control, self.is_anew, self.writes = False, "--anew" in words, "--write" in words
         self.now, self.reach, self.counts = "toolchain a logic 0a\njudge 0", reach.Reach(edits.TOP), mutants.Counts()
 
-    def tried(self, crate, own):
+    def try_edits(self, crate, crate_edits):
         found = {}
-        for edit in own:
+        for edit in crate_edits:
             self.tried_names.append(edit.name)
             kind = "open" if edit.name in self.unshown else "shape"
             found[edit.name] = None if edit.name in self.harmless else edit_checks.Refusal(kind, "double: returns-clause-double")
@@ -314,7 +314,7 @@ def drawing(name):
 
 
 def believed(count, top):
-    mutants.say = lambda text: None
+    mutants.print_line = lambda text: None
     one, none = drawing("adds_nothing")
     names = sorted(edit.name for edit in edits.edits_of("serf_high"))
     first = run([], none, "--write")
@@ -355,7 +355,7 @@ def believed(count, top):
         count.check(name, got == sorted(tried), got)
     write(top, os.path.relpath(path, top), text + "gone " + "0" * 32 + " shape double: x\n")
     known = evidence.Evidence("serf_high", "toolchain a logic 0a\njudge 0")
-    count.check("an edit that was removed is named", len(known.gone(set(names))) == 1)
+    count.check("an edit that was removed is named", len(known.lines_without_edit(set(names))) == 1)
     write(top, os.path.relpath(path, top), text)
     write(
         top,
@@ -486,8 +486,8 @@ def words(count):
     """A word that tools/mutants.py doesn't know is reported, and nothing is tried."""
     tool = os.path.join(checks.TOP, "tools", "mutants.py")
     for word in ("--help", "--overci", "serf_nothing"):
-        ran = subprocess.run([sys.executable, tool, word], stdout=subprocess.PIPE, stderr=subprocess.PIPE, text=True, timeout=checks.LIMIT)
-        count.check(f"mutants.py {word}", ran.returncode == 2 and not ran.stdout and "[CRATE..]" in ran.stderr, ran)
+        result = subprocess.run([sys.executable, tool, word], stdout=subprocess.PIPE, stderr=subprocess.PIPE, text=True, timeout=checks.LIMIT)
+        count.check(f"mutants.py {word}", result.returncode == 2 and not result.stdout and "[CRATE..]" in result.stderr, result)
 
 
 def of_edits(count):

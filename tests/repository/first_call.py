@@ -28,7 +28,7 @@ EXAMPLE = os.path.join("examples", "deploy_gossiped_twice")
 
 # How many processor seconds the first call of a fresh clone may take. It should answer within two minutes on an idle machine. The
 # gate allows twice that, since a machine may be slow, and prints what it took.
-MOST_SECONDS = 240
+MAX_SECONDS = 240
 
 UNPROVED = "compiling the program without its proofs, once"
 
@@ -71,7 +71,7 @@ class Clone:
         return {**os.environ, "PATH": path, **more}
 
     def run(self, *words, has_rt=True, given="", **more):
-        ran = subprocess.run(
+        result = subprocess.run(
             [os.path.join(self.top, words[0]), *words[1:]],
             env=self.environment(has_rt, **more),
             input=given,
@@ -79,7 +79,7 @@ class Clone:
             text=True,
             timeout=120,
         )
-        return ran.returncode, ran.stdout, ran.stderr
+        return result.returncode, result.stdout, result.stderr
 
     def is_unproved(self, text, is_compiled=False):
         """Whether a call runs the program without its proofs, of this source, and prints a sentence first, unless it is compiled."""
@@ -202,7 +202,7 @@ def changing(count, clone):
 def broken_off(count, clone):
     clone.write(clone.source, "four\n")
     clone.order("hangs")
-    ran = subprocess.Popen(
+    process = subprocess.Popen(
         [os.path.join(clone.top, "prove")],
         env=clone.environment(),
         stdin=subprocess.DEVNULL,
@@ -214,8 +214,8 @@ def broken_off(count, clone):
         if os.path.exists(os.path.join(clone.bin, "hanging")):
             break
         time.sleep(0.05)
-    os.killpg(ran.pid, signal.SIGINT)
-    count.check("an interrupted build ends", ran.wait(timeout=60) != 0)
+    os.killpg(process.pid, signal.SIGINT)
+    count.check("an interrupted build ends", process.wait(timeout=60) != 0)
     clone.order()
     count.check("what it left is not current", clone.is_unproved("four"), clone.run("serf-replay", "x"))
     count.check("the next build begins anew", clone.run("prove")[0] == 0 and clone.is_proved("four"))
@@ -267,17 +267,17 @@ def fresh_clone(count, root):
             os.makedirs(os.path.dirname(os.path.join(top, name)), exist_ok=True)
             shutil.copy(os.path.join(TOP, name), os.path.join(top, name))
     began = checks.processor_seconds()
-    ran = subprocess.run(
+    result = subprocess.run(
         ["./serf-replay", "replay", EXAMPLE + ".schedule"], cwd=top, capture_output=True, text=True, timeout=checks.LIMIT
     )
     took = checks.processor_seconds() - began
     print(f"the first call of a fresh clone took {took:.0f} processor seconds")
     trace = checks.text_of(EXAMPLE + ".trace")
-    count.check("the first call's trace", (ran.returncode, ran.stdout) == (0, trace), ran)
+    count.check("the first call's trace", (result.returncode, result.stdout) == (0, trace), result)
     count.check(
-        "its sentence", ran.stderr.count("\n") == 1 and UNPROVED in ran.stderr and "./prove" in ran.stderr, ran.stderr
+        "its sentence", result.stderr.count("\n") == 1 and UNPROVED in result.stderr and "./prove" in result.stderr, result.stderr
     )
-    count.check(f"it takes at most {MOST_SECONDS} processor seconds", took <= MOST_SECONDS, took)
+    count.check(f"it takes at most {MAX_SECONDS} processor seconds", took <= MAX_SECONDS, took)
     began = checks.processor_seconds()
     again = subprocess.run(
         ["./serf-replay", "replay", EXAMPLE + ".schedule"], cwd=top, capture_output=True, text=True, timeout=checks.LIMIT
@@ -285,12 +285,12 @@ def fresh_clone(count, root):
     took = checks.processor_seconds() - began
     count.check(
         "a second call, at once",
-        (again.returncode, again.stdout, again.stderr) == (0, ran.stdout, "") and took <= SECOND_SECONDS,
+        (again.returncode, again.stdout, again.stderr) == (0, result.stdout, "") and took <= SECOND_SECONDS,
         (took, again),
     )
     for command in pages.of(pages.FIRST_CALL):
-        ran = subprocess.run(["bash", "-c", command.text], cwd=top, capture_output=True, text=True, timeout=checks.LIMIT)
-        count.check(command.name(), ran.returncode == 0 and ran.stdout.endswith(" 0 failed\n"), ran)
+        result = subprocess.run(["bash", "-c", command.text], cwd=top, capture_output=True, text=True, timeout=checks.LIMIT)
+        count.check(command.name(), result.returncode == 0 and result.stdout.endswith(" 0 failed\n"), result)
 
 
 def one_figure(count):

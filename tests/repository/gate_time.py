@@ -120,10 +120,10 @@ def whole(count):
     """The whole script fails if its run took too long."""
     script = checks.gate_script()
     part = gate.Part("rt ci")
-    part.said, part.passed = "rt: serf_wire proved\n", 1
+    part.output, part.passed = "rt: serf_wire proved\n", 1
     script.run_ci, script.run_scripts = lambda crates: part, lambda *_: []
     script.say_first = script.show_costs = lambda *_: None
-    script.too_few, script.green.state, script.green.keep = lambda parts: [], lambda top: "a state", lambda *_: None
+    script.too_few, script.green.state, script.green.record_green = lambda parts: [], lambda top: "a state", lambda *_: None
     script.machine.processors = lambda: 2
     for longest, failed in ((gate.LONGEST, 0), (-1, 1)):
         gate.LONGEST = longest

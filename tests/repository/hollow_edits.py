@@ -59,13 +59,13 @@ def whole_gate(script, said, failed):
     """What ./test makes of a run in which nothing fails but what `rt ci` printed, and which has so many failures itself: its
     counts, and how often it recorded that the gate is green."""
     part = gate.Part("rt ci")
-    part.said, part.passed, part.failed = said, 1, failed
+    part.output, part.passed, part.failed = said, 1, failed
     marks = []
     script.run_ci = lambda crates: part
     script.run_scripts = lambda *_: []
     script.say_first = script.show_costs = lambda *_: None
     script.too_few = lambda parts: []
-    green.state, green.keep = lambda top: "a state", lambda *state: marks.append(state)
+    green.state, green.record_green = lambda top: "a state", lambda *state: marks.append(state)
     with contextlib.redirect_stdout(io.StringIO()):
         counts = script.whole(False)
     return counts, len(marks)

@@ -39,9 +39,12 @@ IN_SCRIPTS = dict.fromkeys(
     "error",
 )
 
-# The folder in which Debian has Go's packages, and those of ours that are linked into it, by the path of their imports.
+# The folder in which Debian has Go's packages, and the folders of ours that are checked with them, under the paths of their imports.
 GO_CODE = "/usr/share/gocode"
-IN_GO = ("agent", "bindings/go/guard", "bindings/go/serf", "bindings/go/serfagent")
+IN_GO = (
+    *("agent", "bindings/go/guard", "bindings/go/serf", "bindings/go/serfagent", "bindings/go/example", "bindings/go/beside_serf"),
+    *("bindings/go/burst_driver", "bindings/go/starved_driver", "bindings/go/store_driver", "tests/library/simulation", "tests/library/rpc_client"),
+)
 
 
 def files(ending, word, *folders):
@@ -64,9 +67,9 @@ def first_line(path):
 
 def lines_of(form, words, folder=TOP, env=None):
     """The lines of this form that a linter prints, or its whole text if it fails without any."""
-    ran = subprocess.run(words, cwd=folder, env=env, stdin=subprocess.DEVNULL, stdout=subprocess.PIPE, stderr=subprocess.STDOUT, text=True)
-    found = [line for line in ran.stdout.splitlines() if re.search(form, line)]
-    return found or ([ran.stdout] if ran.returncode else [])
+    result = subprocess.run(words, cwd=folder, env=env, stdin=subprocess.DEVNULL, stdout=subprocess.PIPE, stderr=subprocess.STDOUT, text=True)
+    found = [line for line in result.stdout.splitlines() if re.search(form, line)]
+    return found or ([result.stdout] if result.returncode else [])
 
 
 class Lacks(Exception):
@@ -188,7 +191,7 @@ def linters(count):
     maximum, ran = rows(), set()
     for name, linter, words in (
         ("rustfmt", rust, [files(".rs", None, "bindings/rust")]),
-        ("clippy", clippy, [[os.path.join("bindings", "rust")]]),
+        ("clippy", clippy, [[os.path.join("bindings", "rust"), os.path.join("bindings", "rust", "sys")]]),
         ("clang-format", c, [files((".c", ".h"), None, "bindings/c", "include")]),
         ("gofmt", gofmt, [files(".go", None)]),
         ("go vet", vet, [IN_GO]),

@@ -19,7 +19,7 @@ from checks import TOP, text_of
 import one_crate
 
 # The scripts that need more than the crates: a node in Go, an agent, a release.
-OF_MORE = {f"tests/library/{name}.py" for name in ("agent", "beside_serf", "go_mutants", "kept_cluster", "packages", "rpc_client", "serf_package", "simulation", "snapshot_lives", "filler_stock_serf")} | {"tests/program/timeline.py"}
+OF_MORE = {f"tests/library/{name}.py" for name in ("agent", "attested", "beside_serf", "go_mutants", "kept_cluster", "packages", "rpc_client", "serf_package", "simulation", "snapshot_lives", "filler_stock_serf")}
 
 
 def rows(count):
@@ -50,8 +50,8 @@ def runs(count):
     count.check("the check comes first", commands[0][1:] == (["rt", "check"], os.path.join(TOP, "crates", "serf_store")), commands)
     count.check("the wrong bodies come next", "wrong bodies" in commands[1][0], commands)
     count.check("a slow script is left out", left == ["tests/library/power_cuts.py"], left)
-    ran = subprocess.run([os.path.join(TOP, "test"), "serf_none"], capture_output=True, text=True)
-    count.check("a crate that isn't there", ran.returncode == 2 and "CRATE" in ran.stderr, ran)
+    result = subprocess.run([os.path.join(TOP, "test"), "serf_none"], capture_output=True, text=True)
+    count.check("a crate that isn't there", result.returncode == 2 and "CRATE" in result.stderr, result)
 
 
 def installs(count):
@@ -63,9 +63,9 @@ def installs(count):
                 with open(path, "w", encoding="utf-8") as file:
                     file.write(f"#!/bin/sh\n{text}\n")
                 os.chmod(path, 0o755)
-            ran = subprocess.run(["/bin/bash", os.path.join(TOP, "tools", "packages")], env={"PATH": folder}, capture_output=True, text=True)
-            count.check(f"what is installed for the user {user}", ran.returncode == 1 and ran.stderr.startswith(said), ran)
-        count.check("what could not be installed", "apt-get could not install golang-go" not in ran.stderr, ran)
+            result = subprocess.run(["/bin/bash", os.path.join(TOP, "tools", "packages")], env={"PATH": folder}, capture_output=True, text=True)
+            count.check(f"what is installed for the user {user}", result.returncode == 1 and result.stderr.startswith(said), result)
+        count.check("what could not be installed", "apt-get could not install golang-go" not in result.stderr, result)
 
 
 if __name__ == "__main__":

@@ -27,12 +27,12 @@ OTHERS = {
 }
 
 
-def called(top, *words):
-    ran = subprocess.run([sys.executable, os.path.join(top, "tools", "publisher.py"), *words], stdin=subprocess.DEVNULL, capture_output=True, text=True)
-    return ran.returncode, ran.stdout, ran.stderr
+def run_publisher(top, *words):
+    result = subprocess.run([sys.executable, os.path.join(top, "tools", "publisher.py"), *words], stdin=subprocess.DEVNULL, capture_output=True, text=True)
+    return result.returncode, result.stdout, result.stderr
 
 
-def copied(root):
+def copy_repository(root):
     """A copy of what is in the repository, as a repository."""
     top = os.path.join(root, "copy")
     for path in subprocess.run(["git", "ls-files", "-z", "-co", "--exclude-standard"], cwd=TOP, check=True, stdout=subprocess.PIPE, text=True).stdout.split("\0"):
@@ -46,19 +46,19 @@ def copied(root):
 
 def changed(count):
     with tempfile.TemporaryDirectory(prefix="publisher-") as root:
-        top = copied(root)
+        top = copy_repository(root)
         old = publisher.values(top)
         count.check("PUBLISHER has each value", list(old) == list(publisher.FORMS), old)
-        status, said, error = called(top, *(f"{name}={value}" for name, value in OTHERS.items()))
+        status, output, error = run_publisher(top, *(f"{name}={value}" for name, value in OTHERS.items()))
         count.check("other values are set", status == 0, error)
         count.check("PUBLISHER has them", publisher.values(top) == OTHERS, publisher.values(top))
-        files = said.splitlines()
+        files = output.splitlines()
         for path in ("PUBLISHER", "bindings/rust/Cargo.toml", "bindings/python/pyproject.toml", "bindings/go/serfagent/go.mod", "agent/build", "README.md"):
             count.check(f"{path} is changed", path in files, files)
         left = [path for path in publisher.committed(top) if old["modules"].encode() in checks.read(top, path)]
         count.check("nothing of the old values is left", not left, left)
         in_go(count, top)
-        status, _, error = called(top, *(f"{name}={value}" for name, value in old.items()))
+        status, _, error = run_publisher(top, *(f"{name}={value}" for name, value in old.items()))
         other = [path for path in publisher.committed(top) if checks.read(top, path) != checks.read(path)]
         count.check("the old values make the same files again", status == 0 and not other, (error, other))
 
@@ -69,11 +69,11 @@ def in_go(count, top):
         print("not run: Go's modules with another path, since go is not on PATH")
         return
     env = {**os.environ, "GOFLAGS": "-mod=mod", "GOPROXY": "off", "GO111MODULE": "on"}
-    ran = subprocess.run(["go", "list", "./..."], cwd=os.path.join(top, "bindings", "go"), env=env, capture_output=True, text=True)
-    names = ran.stdout.split()
-    count.check("Go finds the programs", ran.returncode == 0 and f"{OTHERS['modules']}/programs/example" in names, (names, ran.stderr))
-    ran = subprocess.run(["gofmt", "-l", "bindings/go", "agent"], cwd=top, capture_output=True, text=True)
-    count.check("the sources in Go are formatted", (ran.returncode, ran.stdout) == (0, ""), ran.stdout)
+    result = subprocess.run(["go", "list", "./..."], cwd=os.path.join(top, "bindings", "go"), env=env, capture_output=True, text=True)
+    names = result.stdout.split()
+    count.check("Go finds the programs", result.returncode == 0 and f"{OTHERS['modules']}/programs/example" in names, (names, result.stderr))
+    result = subprocess.run(["gofmt", "-l", "bindings/go", "agent"], cwd=top, capture_output=True, text=True)
+    count.check("the sources in Go are formatted", (result.returncode, result.stdout) == (0, ""), result.stdout)
 
 
 def refused(count):
@@ -84,10 +84,10 @@ def refused(count):
         ("repository=forge.test", "repository can't be "),
         ('maintainer=A "B" <a@b.test>', "maintainer can't be "),
     ):
-        status, said, told = called(TOP, word)
-        count.check(f"refused: {word}", (status, said) == (2, "") and error in told, (status, told))
-    status, said, _ = called(TOP)
-    count.check("the values are printed", status == 0 and said == "".join(f"{name} {value}\n" for name, value in publisher.values().items()), said)
+        status, output, told = run_publisher(TOP, word)
+        count.check(f"refused: {word}", (status, output) == (2, "") and error in told, (status, told))
+    status, output, _ = run_publisher(TOP)
+    count.check("the values are printed", status == 0 and output == "".join(f"{name} {value}\n" for name, value in publisher.values().items()), output)
 
 
 if __name__ == "__main__":

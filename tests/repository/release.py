@@ -2,7 +2,6 @@
 passes then, and fails after any change. The agent in both packages starts."""
 
 import filecmp
-import hashlib
 import io
 import json
 import os
@@ -17,31 +16,21 @@ import tempfile
 sys.dont_write_bytecode = True
 sys.path.insert(0, os.path.dirname(os.path.dirname(os.path.abspath(__file__))))
 import checks
+import digests
 import green
 import publisher
 import verdicts
 from checks import TOP
 
-# Stand-ins for the program and the library: the real ones are not inspected here.
-VERSION = checks.text_of("VERSION").strip()
-PROGRAM = f"#!/bin/sh\necho serf-replay {VERSION}\n"
-NAME = f"serf-replay-{VERSION}-x86_64-linux"
-PACKAGE = f"kitchenrue-agent_{VERSION}_amd64.deb"
-SDIST = f"serf_agent-{VERSION}.tar.gz"
-BILL = f"kitchenrue-{VERSION}.spdx.json"
-SUMS = "SHA256SUMS"
+sys.path.insert(0, os.path.join(TOP, "tests", "repository", "release"))
+import objects
+from calls import BILL, NAME, PACKAGE, PROGRAM, SDIST, SUMS, VERSION, run_release, release, replace_with_sum, write
 
 # What is copied from the repository: what ./release reads, and ./release itself.
 PARTS = [
     "README.md", "LICENSE", "VERSION", "CHANGELOG.md", "SECURITY.md", "install", "include", "bindings", "agent", "conformance", "docs",
     "examples", "release", "tools", "crates", "crates.txt", "PUBLISHER", "PUBLISHING.md",
 ]
-
-
-def write(path, text):
-    os.makedirs(os.path.dirname(path), exist_ok=True)
-    with open(path, "w", encoding="utf-8") as file:
-        file.write(text)
 
 
 def clone(root):
@@ -81,28 +70,15 @@ def compile_library(path, compiler="cc"):
     subprocess.run(["ar", "rcs", path, f"{path}.o"], check=True)
 
 
-def called(top, *words, **env):
-    """What ./release does: its status, and what it prints."""
-    how = {"stdin": subprocess.DEVNULL, "capture_output": True, "text": True, "env": {**os.environ, **env}}
-    ran = subprocess.run([os.path.join(top, "release"), *words], **how)
-    return ran.returncode, ran.stdout + ran.stderr
-
-
-def release(top, folder, *more, **env):
-    if not folder.startswith("/proc/"):
-        os.makedirs(folder, exist_ok=True)
-    return called(top, *more, folder, **env)
-
-
 def refused(count, top, root):
     count.check("refused without a green gate", release(top, os.path.join(root, "none"))[0] == 3)
     before = green.state(top)
     write(os.path.join(top, "docs", "more.md"), "more\n")
-    green.keep(top, before)
-    count.check("no mark if a file was added during the gate", not green.holds(top))
+    green.record_green(top, before)
+    count.check("no mark if a file was added during the gate", not green.is_green(top))
     os.remove(os.path.join(top, "docs", "more.md"))
-    green.keep(top, before)
-    count.check("a mark if nothing changed", green.holds(top))
+    green.record_green(top, before)
+    count.check("a mark if nothing changed", green.is_green(top))
     write(os.path.join(top, "docs", "more.md"), "more\n")
     count.check("refused if a file was added since", release(top, os.path.join(root, "none"))[0] == 3)
     os.remove(os.path.join(top, "docs", "more.md"))
@@ -110,11 +86,11 @@ def refused(count, top, root):
         with open(os.path.join(top, path), "r+b") as file:
             tested = file.read()
             file.write(b"another\n")
-        status, said = release(top, os.path.join(root, "none"))
+        status, output = release(top, os.path.join(root, "none"))
         count.check(
             f"refused if {os.path.basename(path)} isn't the one that the gate tested",
-            status == 3 and "not passed" in said,
-            (status, said),
+            status == 3 and "not passed" in output,
+            (status, output),
         )
         with open(os.path.join(top, path), "wb") as file:
             file.write(tested)
@@ -125,10 +101,10 @@ def refused(count, top, root):
 
 def unmade(count, top, root):
     """It prints a sentence if nothing can be written, if there is no compiler, and if there is no make."""
-    status, said = release(top, "/proc/none")
-    count.check("refused if nothing can be written", status == 3 and re.fullmatch(r"release: /proc/none/\S+: No such file or directory\n", said), said)
-    status, said = release(top, os.path.join(root, "none"), CC="none")
-    count.check("refused without a compiler", status == 3 and "there is no C compiler none on PATH" in said, (status, said))
+    status, output = release(top, "/proc/none")
+    count.check("refused if nothing can be written", status == 3 and re.fullmatch(r"release: /proc/none/\S+: No such file or directory\n", output), output)
+    status, output = release(top, os.path.join(root, "none"), CC="none")
+    count.check("refused without a compiler", status == 3 and "there is no C compiler none on PATH" in output, (status, output))
     few = os.path.join(root, "few")
     os.mkdir(few)
     for name in ("env", "git", "bash", "dirname", "awk", "sort", "cut", "find", "xargs", "sha256sum"):
@@ -152,13 +128,13 @@ def another_version(count, top, root):
         if what == "package":
             write(os.path.join(top, green.PROGRAM), other)
             subprocess.run(["git", "-c", "user.name=a", "-c", "user.email=a@localhost", "commit", "-qam", "another"], cwd=top, check=True)
-        green.keep(top, green.state(top))
-        status, said = release(top, none)
-        count.check(f"refused with another version of the {what}", status == 3 and error in said, (status, said))
+        green.record_green(top, green.state(top))
+        status, output = release(top, none)
+        count.check(f"refused with another version of the {what}", status == 3 and error in output, (status, output))
         write(os.path.join(top, path), before)
     write(os.path.join(top, green.PROGRAM), PROGRAM)
     subprocess.run(["git", "reset", "-q", "--hard", "HEAD~"], cwd=top, check=True)
-    green.keep(top, green.state(top))
+    green.record_green(top, green.state(top))
 
 
 def other_proofs(count, top, root):
@@ -171,8 +147,8 @@ def other_proofs(count, top, root):
         ("a verdict of other sources", re.sub(r"^serf_wire \w", "serf_wire -", text, flags=re.M), "the verdict of serf_wire in "),
     ):
         write(path, other)
-        status, said = release(top, none)
-        count.check(f"refused with {what}", status == 3 and error in said, (status, said))
+        status, output = release(top, none)
+        count.check(f"refused with {what}", status == 3 and error in output, (status, output))
     write(path, text)
 
 
@@ -204,31 +180,31 @@ def key(root):
 
 def twice_the_same(count, top, root, own_key):
     for name in ("one", "two"):
-        status, said = release(top, os.path.join(root, name), "--key", own_key)
-        count.check(f"release {name}", status == 0, said)
+        status, output = release(top, os.path.join(root, name), "--key", own_key)
+        count.check(f"release {name}", status == 0, output)
     names = sorted(os.listdir(os.path.join(root, "one")))
     wheels = [name for name in names if name.endswith(".whl")]
     count.check("its files", names == sorted([f"{NAME}.tar.gz", PACKAGE, SDIST, BILL, SUMS, f"{SUMS}.sig", *wheels]) and len(wheels) == 1, names)
     for name in names:
         same = filecmp.cmp(os.path.join(root, "one", name), os.path.join(root, "two", name), shallow=False)
         count.check(f"{name}: twice the same bytes", same)
-    done = subprocess.run(["sha256sum", "-c", "--quiet", SUMS], cwd=os.path.join(root, "one"), capture_output=True, text=True)
+    result = subprocess.run(["sha256sum", "-c", "--quiet", SUMS], cwd=os.path.join(root, "one"), capture_output=True, text=True)
     listed = {line.split()[1] for line in checks.text_of(root, "one", SUMS).splitlines()}
-    count.check("the sum of each file", done.returncode == 0 and listed == set(names) - {SUMS, f"{SUMS}.sig"}, (done, listed))
+    count.check("the sum of each file", result.returncode == 0 and listed == set(names) - {SUMS, f"{SUMS}.sig"}, (result, listed))
 
 
 def verified(count, top, root, signers):
     """--verify passes, and fails after a changed byte of each file, a missing file, a file more, and another signature."""
     one, copy = os.path.join(root, "one"), os.path.join(root, "copy")
-    status, said = called(top, "--verify", one, "--signers", signers)
-    count.check("--verify", (status, said) == (0, "the release is right\n"), said)
+    status, output = run_release(top, "--verify", one, "--signers", signers)
+    count.check("--verify", (status, output) == (0, "the release is right\n"), output)
 
     def changed(what, change, error, more=("--signers", signers)):
         shutil.rmtree(copy, ignore_errors=True)
         shutil.copytree(one, copy)
         change()
-        status, said = called(top, "--verify", copy, *more)
-        count.check(f"--verify: {what}", status == 1 and re.search(error, said), (status, said))
+        status, output = run_release(top, "--verify", copy, *more)
+        count.check(f"--verify: {what}", status == 1 and re.search(error, output), (status, output))
 
     for name in sorted(os.listdir(one)):
         error = {SUMS: "is no signature of|is not in|is missing", f"{SUMS}.sig": "is by no key of|is no signature of"}.get(name, "has another sum than")
@@ -236,13 +212,13 @@ def verified(count, top, root, signers):
     changed("a missing file", lambda: os.remove(os.path.join(copy, PACKAGE)), f"{PACKAGE} is missing")
     changed("a file more", lambda: write(os.path.join(copy, "more"), "more"), "more is not in SHA256SUMS")
     changed("no signature", lambda: os.remove(os.path.join(copy, f"{SUMS}.sig")), "SHA256SUMS.sig is missing")
-    changed("another file with its own sum", lambda: resummed(copy, PACKAGE, b"another"), "is no signature of")
+    changed("another file with its own sum", lambda: replace_with_sum(copy, PACKAGE, b"another"), "is no signature of")
     unsigned = f"^not checked: the signature, without --signers\n{re.escape(PACKAGE)} is not what this clone makes\n{SUMS} is not"
-    changed("another file, without signers", lambda: resummed(copy, PACKAGE, b"another"), unsigned, ())
-    changed("another file in the archive", lambda: resummed(copy, f"{NAME}.tar.gz", with_more(os.path.join(one, f"{NAME}.tar.gz"))), "more is not in SHA256SUMS")
+    changed("another file, without signers", lambda: replace_with_sum(copy, PACKAGE, b"another"), unsigned, ())
+    changed("another file in the archive", lambda: replace_with_sum(copy, f"{NAME}.tar.gz", with_more(os.path.join(one, f"{NAME}.tar.gz"))), "more is not in SHA256SUMS")
     write(f"{signers}.other", "other@host.example " + checks.text_of(root, "other.pub"))
-    status, said = called(top, "--verify", one, "--signers", f"{signers}.other")
-    count.check("--verify: another signer", status == 1 and "is by no key of" in said, (status, said))
+    status, output = run_release(top, "--verify", one, "--signers", f"{signers}.other")
+    count.check("--verify: another signer", status == 1 and "is by no key of" in output, (status, output))
     unreadable(count, top, root, one)
 
 
@@ -256,15 +232,15 @@ def unreadable(count, top, root, one):
         ("no signers", ["--verify", one, "--signers", os.path.join(root, "nowhere")], "there is no file of signers at "),
         ("no key", ["--key", os.path.join(root, "nowhere"), empty], "there is no key at "),
     ):
-        status, said = called(top, *words)
-        count.check(f"refused: {what}", status == 3 and error in said, (status, said))
+        status, output = run_release(top, *words)
+        count.check(f"refused: {what}", status == 3 and error in output, (status, output))
     for words in (["--verify", one, "more"], ["--signers", one], ["one", "two"], ["--none"]):
-        status, said = called(top, *words)
-        count.check(f"refused: the command line {' '.join(words[:1])}", status == 2 and said.startswith("usage: "), (status, said))
-    os.remove(green.mark(top))
-    status, said = called(top, "--verify", one)
-    count.check("--verify without a green gate", status == 0 and "not checked: the same bytes again: ./test has not passed here" in said, (status, said))
-    green.keep(top, green.state(top))
+        status, output = run_release(top, *words)
+        count.check(f"refused: the command line {' '.join(words[:1])}", status == 2 and output.startswith("usage: "), (status, output))
+    os.remove(green.mark_path(top))
+    status, output = run_release(top, "--verify", one)
+    count.check("--verify without a green gate", status == 0 and "not checked: the same bytes again: ./test has not passed here" in output, (status, output))
+    green.record_green(top, green.state(top))
 
 
 def flip(path):
@@ -274,14 +250,6 @@ def flip(path):
         byte = file.read(1)
         file.seek(-1, os.SEEK_CUR)
         file.write(bytes([byte[0] ^ 1]))
-
-
-def resummed(folder, name, text):
-    """Replaces a file of a release, and its sum."""
-    with open(os.path.join(folder, name), "wb") as file:
-        file.write(text)
-    rows = checks.text_of(folder, SUMS)
-    write(os.path.join(folder, SUMS), re.sub(rf"^\w+(?=  {re.escape(name)}$)", hashlib.sha256(text).hexdigest(), rows, flags=re.M))
 
 
 def with_more(path):
@@ -323,8 +291,8 @@ def bill(count, top, root):
 def packed_agent(count, root):
     """The package has the archive's program, which prints its version."""
     unpacked, built = os.path.join(root, "package"), os.path.join(root, "unpacked", NAME, "bin", "kitchenrue-agent")
-    done = subprocess.run(["dpkg-deb", "-x", os.path.join(root, "one", PACKAGE), unpacked], capture_output=True, text=True)
-    count.check("the package can be unpacked", done.returncode == 0, done.stderr)
+    result = subprocess.run(["dpkg-deb", "-x", os.path.join(root, "one", PACKAGE), unpacked], capture_output=True, text=True)
+    count.check("the package can be unpacked", result.returncode == 0, result.stderr)
     own = os.path.join(unpacked, "usr", "bin", "kitchenrue-agent")
     count.check("its program is the archive's", os.access(own, os.X_OK) and filecmp.cmp(own, built, shallow=False))
     said = subprocess.run([built, "-version"], capture_output=True, text=True)
@@ -356,8 +324,9 @@ def unpacked(count, root):
         "lib/libserf_agent.a",
         "lib/libserf_agent.so",
         "docs/serf_agent.3",
-        "bindings/rust/native/libserf_agent_c.a",
-        "bindings/rust/native/serf_agent.h",
+        "bindings/rust/sys/native/libserf_agent_c.a",
+        "bindings/rust/sys/native/serf_agent.h",
+        "bindings/rust/sys/build/main.rs",
         "bindings/rust/LICENSE",
         "bindings/go/serf/LICENSE",
         "bindings/go/drop_in",
@@ -370,8 +339,8 @@ def unpacked(count, root):
         "crates/serf_window/specs/Window.antt",
     ):
         count.check(f"it has {path}", os.path.isfile(os.path.join(top, path)))
-    ran = subprocess.run([os.path.join(top, "bin", "serf-replay"), "--version"], capture_output=True, text=True)
-    count.check("the program runs", ran.stdout == f"serf-replay {VERSION}\n", ran)
+    result = subprocess.run([os.path.join(top, "bin", "serf-replay"), "--version"], capture_output=True, text=True)
+    count.check("the program runs", result.stdout == f"serf-replay {VERSION}\n", result)
     made = subprocess.run(["make", "-n", "-C", os.path.join(top, "bindings", "c")], capture_output=True, text=True)
     count.check(
         "the binding in C uses its library",
@@ -383,15 +352,17 @@ def unpacked(count, root):
 
 
 def for_two_processors(count, top, root):
-    """If the library was made for aarch64 from the current sources, the release has it, its packages, and the sources for a stock clang."""
-    if shutil.which("aarch64-linux-gnu-gcc") is None or shutil.which("qemu-aarch64") is None:
-        print("not run: a release for aarch64, since aarch64-linux-gnu-gcc or qemu-aarch64 is not on PATH")
+    """If the library was made for aarch64 from the current sources, the release has it, its packages, and the sources for a stock clang
+    with the digests of what clang-16 makes of them."""
+    lacks = [name for name in ("aarch64-linux-gnu-gcc", "qemu-aarch64", digests.CLANG) if shutil.which(name) is None]
+    if lacks:
+        print(f"not run: a release for aarch64, since {' and '.join(lacks)} is not on PATH")
         return
     out = os.path.join(top, "crates", "serf_agent_c", "out")
     sources = subprocess.run([sys.executable, "-c", "import targets; print(targets.of_sources(), end='')"], cwd=os.path.join(top, "tools"), check=True, stdout=subprocess.PIPE, text=True).stdout
     for target, compiler in (("x86_64", "cc"), ("aarch64", "aarch64-linux-gnu-gcc")):
         compile_library(os.path.join(out, target, "libserf_agent_c.a"), compiler)
-        for name, text in (("serf_agent_c.ll", f"; {target}\n"), ("flags", "-O3\n"), ("verdict", f"logic=proved target={target}\n"), ("sources", sources)):
+        for name, text in (("serf_agent_c.ll", f"define i32 @of_{target}() {{ ret i32 1 }}\n"), ("flags", "-O3\n"), ("verdict", f"logic=proved target={target}\n"), ("sources", sources)):
             write(os.path.join(out, target, name), text)
     status, said = release(top, os.path.join(root, "both"))
     count.check("a release for two processors", status == 0, said)
@@ -405,11 +376,12 @@ def for_two_processors(count, top, root):
     with tarfile.open(os.path.join(root, "both", f"{NAME}.tar.gz")) as tar:
         inside = {name.partition("/")[2] for name in tar.getnames()}
     for path in (
-        *("lib/aarch64/libserf_agent_c.a", "bindings/rust/native/aarch64/libserf_agent_c.a", "bindings/go/serfagent/libserf_agent_c_arm64.a"),
-        *(f"bindings/source/{target}/{name}" for target in ("x86_64", "aarch64") for name in ("serf_agent_c.ll", "flags", "verdict")),
+        *("lib/aarch64/libserf_agent_c.a", "bindings/rust/sys/native/aarch64/libserf_agent_c.a", "bindings/go/serfagent/libserf_agent_c_arm64.a"),
+        *(f"{place}/{target}/{name}" for place in ("bindings/source", "bindings/rust/sys/source") for target in ("x86_64", "aarch64") for name in ("serf_agent_c.ll", "flags", "verdict", "digests")),
         *("bindings/source/build", "bindings/source/README.md"),
     ):
         count.check(f"the archive has {path}", path in inside)
+    objects.compared(count, top, root)
     write(os.path.join(out, "aarch64", "sources"), "others")
     status, said = release(top, os.path.join(root, "one more"))
     found = sorted(os.listdir(os.path.join(root, "one more")))

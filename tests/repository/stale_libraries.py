@@ -47,8 +47,8 @@ def write(top, path, text):
 def built(count, rt, top):
     """Builds the small repository as ./test does, and returns its crates."""
     crates = rt.rtlib.crates_below(top)
-    libraries.drop(crates)
-    ran = subprocess.run(
+    libraries.remove_libraries(crates)
+    result = subprocess.run(
         ["rt", "ci"],
         cwd=top,
         stdin=subprocess.DEVNULL,
@@ -57,8 +57,8 @@ def built(count, rt, top):
         text=True,
         errors="replace",
     )
-    count.check("rt ci passes it", ran.returncode == 0, ran.stdout[-1500:])
-    libraries.note(crates)
+    count.check("rt ci passes it", result.returncode == 0, result.stdout[-1500:])
+    libraries.record_hashes(crates)
     return {crate.name: crate for crate in crates}
 
 
@@ -86,11 +86,11 @@ def stale(count):
         with open(name, "wb") as file:
             file.write(text)
         count.check("a library that is put back", fault() is None)
-        os.remove(libraries.note_of(low))
+        os.remove(libraries.hashes_path(low))
         count.check("a library without a note", fault() is not None)
         # what an earlier run left is removed before `rt ci` runs, so that nobody can put it back afterwards
-        libraries.note([low])
-        libraries.drop([low])
+        libraries.record_hashes([low])
+        libraries.remove_libraries([low])
         count.check("what is dropped is removed", not os.path.exists(libraries.folder_of(low)) and fault() is not None)
         shutil.rmtree(os.path.join(top, "crates", "stale_low", "out"))
 

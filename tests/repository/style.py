@@ -30,7 +30,7 @@ ROWS = os.path.join("tests", "repository", "style.rows")
 EXCEPTIONS = os.path.join("tests", "repository", "style.exceptions")
 
 # The page with the table of words, and how many rows it has at least.
-PAGE, LEAST = "docs/STYLE.md", 30
+PAGE, MIN_ROWS = "docs/STYLE.md", 30
 
 # How much is shown on either side of a finding, in characters.
 AROUND = 50
@@ -148,7 +148,7 @@ def table(count):
     """Each row of the table of words in docs/STYLE.md has a phrase."""
     lines = checks.text_of(PAGE).partition("\n## Words\n")[2].splitlines()
     found = [line.split("|")[1].strip() for line in lines if line.startswith("|")][2:]
-    count.check(f"{PAGE}: the table of words", len(found) >= LEAST, len(found))
+    count.check(f"{PAGE}: the table of words", len(found) >= MIN_ROWS, len(found))
     lacking = unlisted(found)
     count.check(f"{PAGE}: each row has a phrase in style/phrases.py", not lacking, lacking)
     count.check("planted: a row without a phrase", unlisted(["goes on with its file", "utilizes"]) == ["utilizes"])

@@ -26,6 +26,7 @@ COPIES = {
     "crates/serf_replay_program/src/commands.rt": (r'\.version\("', r'"\)'),
     "agent/internal/config/config.go": (r'^const Version = "', r'"$'),
     "bindings/rust/Cargo.toml": (r'^version = "', r'"$'),
+    "bindings/rust/sys/Cargo.toml": (r'^version = "', r'"$'),
     "bindings/python/pyproject.toml": (r'^version = "', r'"$'),
     "bindings/c/serf_agent_text.c": (r'^static const char version\[\] = "', r'";$'),
     "bindings/python/serf_agent/__init__.py": (r'^__version__ = "', r'"$'),
@@ -92,13 +93,13 @@ def installed(count):
                 file.write(bytes(18) + {"aarch64": b"\xb7"}.get(platform.machine(), b"\x3e"))
         made = ["make", "-s", "-C", folder, "-o", libraries[0], "-o", libraries[1], f"OUT={root}", "install", f"PREFIX={root}/made"]
         for name, words in (("made", made), ("put", ["sh", os.path.join(folder, "put"), *libraries, f"{root}/put"])):
-            ran = subprocess.run(words, capture_output=True, text=True)
+            result = subprocess.run(words, capture_output=True, text=True)
             there = os.path.join(root, name, "lib")
             names = os.listdir(there) if os.path.isdir(there) else []
-            count.check(f"{name}: the library's name", f"libserf_agent.so.{version()}" in names, (ran.stderr, names))
+            count.check(f"{name}: the library's name", f"libserf_agent.so.{version()}" in names, (result.stderr, names))
             page = os.path.join(there, "pkgconfig", "serf_agent.pc")
-            said = open(page, encoding="utf-8").read() if os.path.exists(page) else ""
-            count.check(f"{name}: what pkg-config reads", f"\nVersion: {version()}\n" in said, said)
+            output = open(page, encoding="utf-8").read() if os.path.exists(page) else ""
+            count.check(f"{name}: what pkg-config reads", f"\nVersion: {version()}\n" in output, output)
 
 
 def planted(count):

@@ -180,7 +180,7 @@ def mend_edits(path):
 def make_others():
     """Makes what is made of the sources."""
     shutil.copy(os.path.join(TOP, "include", "serf_agent.h"), os.path.join(TOP, "bindings", "go", "serfagent", "serf_agent.h"))
-    for words in (["tools/calling.py"], ["tools/manual_of_header.py"]):
+    for words in (["tools/calling.py"], ["tools/manual_of_header.py"], ["tools/rust_of_header.py"]):
         subprocess.run([sys.executable, *words], cwd=TOP, check=True)
 
 

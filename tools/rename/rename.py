@@ -48,8 +48,8 @@ RESERVED = set("as in data where fn let mut ref self Self match if else for whil
 
 
 def tracked():
-    ran = subprocess.run(["git", "ls-files", "-co", "--exclude-standard"], cwd=TOP, stdout=subprocess.PIPE, text=True, check=True)
-    found = sorted(path for path in set(ran.stdout.splitlines()) if not LEFT.search(path))
+    result = subprocess.run(["git", "ls-files", "-co", "--exclude-standard"], cwd=TOP, stdout=subprocess.PIPE, text=True, check=True)
+    found = sorted(path for path in set(result.stdout.splitlines()) if not LEFT.search(path))
     return [path for path in found if os.path.isfile(os.path.join(TOP, path)) and not os.path.islink(os.path.join(TOP, path))]
 
 
@@ -341,8 +341,8 @@ class Tree:
 
 def left_behind(tree):
     """The files of crates whose folder moves that are made of others, and so aren't renamed: they move as they are."""
-    ran = subprocess.run(["git", "ls-files", "crates"], cwd=TOP, stdout=subprocess.PIPE, text=True, check=True)
-    for path in ran.stdout.splitlines():
+    result = subprocess.run(["git", "ls-files", "crates"], cwd=TOP, stdout=subprocess.PIPE, text=True, check=True)
+    for path in result.stdout.splitlines():
         front = path.split("/")[1]
         if front in tree.raw and path not in tree.texts:
             yield path, path.replace(front, tree.raw[front], 1)

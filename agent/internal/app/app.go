@@ -22,15 +22,15 @@ const handlersGrace = 10 * time.Second
 
 // App is a running agent.
 type App struct {
-	// config has the addresses that were looked up, and configured what was read.
-	config, configured config.Config
+	// configAsRead is the configuration as it was read. config is the same with resolved addresses.
+	config, configAsRead config.Config
 
 	log    *logs.Log
 	runner *handlers.Runner
 	node   *serf.Serf
 	server atomic.Pointer[rpc.Server]
 	tags   *tags
-	// endReason receives why the agent has to end. It is nil if a request ended it.
+	// endReason receives the reason why the agent has to end. The reason is nil if a request ended the agent.
 	endReason chan error
 	// closing is closed when the agent ends, and pumpDone after the last event was passed on.
 	closing, pumpDone chan struct{}
@@ -40,12 +40,12 @@ type App struct {
 
 // Start starts an agent. It joins only the members that its snapshot names.
 func Start(conf config.Config, out io.Writer) (*App, error) {
-	configured := conf
+	configAsRead := conf
 	if err := conf.Resolve(); err != nil {
 		return nil, err
 	}
 	level, _ := logs.LevelOf(conf.LogLevel)
-	a := &App{config: conf, configured: configured, log: logs.New(out, level), endReason: make(chan error, 1), closing: make(chan struct{}), pumpDone: make(chan struct{}), closeSyslog: func() {}}
+	a := &App{config: conf, configAsRead: configAsRead, log: logs.New(out, level), endReason: make(chan error, 1), closing: make(chan struct{}), pumpDone: make(chan struct{}), closeSyslog: func() {}}
 	if conf.Syslog {
 		closeSyslog, err := a.log.ToSyslog("", "", conf.SyslogFacility)
 		if err != nil {
@@ -113,8 +113,8 @@ func (a *App) pumpEvents(events <-chan serf.Event) {
 	}
 }
 
-// logEvent logs an event that was handed out. Anybody can send events and queries for which there is no handler, so the
-// lines of these are limited.
+// logEvent logs an event that was handed out. Any node can send events and queries for which there is no handler here,
+// so the log limits the lines of these.
 func (a *App) logEvent(e serf.Event) {
 	const format = "[INFO] agent: Received event: %s"
 	switch e.EventType() {
@@ -127,18 +127,18 @@ func (a *App) logEvent(e serf.Event) {
 	a.log.Lazyf(format, e)
 }
 
-// countNames makes the metrics count the names of events and queries in the handlers' filters, even if a flood of other
+// countNames makes the metrics count the event names and query names in the handlers' filters, even if a flood of other
 // names arrived first.
 func (a *App) countNames(scripts []handlers.Script) {
 	a.node.CountNames(handlers.Names(scripts, "user"), handlers.Names(scripts, "query"))
 }
 
-// waitForRoom waits until the handlers have room, or the agent ends. An agent that ends passes all events that were
-// handed out to the handlers at once.
+// waitForRoom waits until the handlers have room, or the agent ends. When the agent ends, the events that were handed
+// out go to the handlers without waiting for room.
 func (a *App) waitForRoom() {
 	for !a.runner.HasRoom() {
 		select {
-		case <-a.runner.Room():
+		case <-a.runner.RoomFreed():
 		case <-a.closing:
 			return
 		}
@@ -153,7 +153,7 @@ func (a *App) watchNode() {
 	}
 }
 
-// requestEnd ends the agent. The first reason counts.
+// requestEnd ends the agent for a reason. If it is called again, the first reason is kept.
 func (a *App) requestEnd(reason error) {
 	select {
 	case a.endReason <- reason:
@@ -161,14 +161,14 @@ func (a *App) requestEnd(reason error) {
 	}
 }
 
-// Close ends the agent: the node at once, and the handlers within handlersGrace. If handlers are tracked, the node ends
-// after the handler that runs, and what waits for its handler stays open. If the node has ended by itself, Close returns
-// why.
+// Close ends the agent. The node ends at once, and the handlers within handlersGrace. If handlers are tracked, the node
+// ends after the handler that is running, and the events that still wait for their handlers stay open. If the node
+// ended by itself, Close returns the reason.
 func (a *App) Close() error {
 	a.log.Print("[INFO] agent: requesting serf shutdown")
 	close(a.closing)
 	if a.config.TracksHandlers() {
-		// The node records the end of the handler that still runs.
+		// The node still has to record the end of the handler that is running.
 		a.runner.Close(handlersGrace)
 	}
 	err := a.node.Shutdown()
@@ -185,12 +185,12 @@ func (a *App) Close() error {
 	return err
 }
 
-// ignoresOld reports whether the joins at the start ignore events from before them. A node that resumes from its
-// snapshot needs the events it missed.
+// ignoresOld reports whether the joins at the start ignore the events from before the join. A node that resumes from
+// its snapshot needs the events that it missed.
 func (a *App) ignoresOld() bool { return !a.config.Replay && !a.node.IsGoingOn() }
 
-// JoinAtStart joins the agents in the configuration, and starts to retry those of RetryJoin. It is an error if a join
-// of StartJoin fails.
+// JoinAtStart joins the agents in the configuration, and starts to retry those of RetryJoin. It returns an error if a
+// join of StartJoin fails.
 func (a *App) JoinAtStart(ctx context.Context) error {
 	if len(a.config.StartJoin) > 0 {
 		count, err := a.node.Join(a.config.StartJoin, a.ignoresOld())
@@ -205,6 +205,7 @@ func (a *App) JoinAtStart(ctx context.Context) error {
 	return nil
 }
 
+// retryJoin tries to join the agents of RetryJoin until one is joined, RetryMax is reached or ctx is done.
 func (a *App) retryJoin(ctx context.Context) {
 	for attempt := 1; ; attempt++ {
 		count, err := a.node.Join(a.config.RetryJoin, a.ignoresOld())
@@ -212,7 +213,7 @@ func (a *App) retryJoin(ctx context.Context) {
 			a.log.Printf("[INFO] agent: Join completed. Synced with %d initial agents", count)
 			return
 		}
-		// The first attempt is no retry.
+		// The first attempt is not a retry.
 		if a.config.RetryMax > 0 && attempt > a.config.RetryMax {
 			a.requestEnd(fmt.Errorf("-retry-join: no agent was joined in %d attempts: %w", attempt, err))
 			return
@@ -226,8 +227,8 @@ func (a *App) retryJoin(ctx context.Context) {
 	}
 }
 
-// Reload applies the handlers, the tags and the log level of a new configuration. If a file has the tags, it reads this
-// file again.
+// Reload applies the handlers, the tags and the log level of a new configuration. If the tags are in a file, it reads
+// that file again.
 func (a *App) Reload(conf config.Config) error {
 	scripts, err := handlers.ParseScripts(conf.EventHandlers)
 	if err != nil {
@@ -237,12 +238,12 @@ func (a *App) Reload(conf config.Config) error {
 	if !ok {
 		return fmt.Errorf("-log-level: %q is not one of %v", conf.LogLevel, logs.Levels)
 	}
-	next, err := a.tags.reread(conf)
+	newTags, err := a.tags.reread(conf)
 	if err != nil {
 		return err
 	}
 	a.runner.SetScripts(scripts)
 	a.countNames(scripts)
 	a.log.SetLevel(level)
-	return a.tags.change(func(map[string]string) map[string]string { return next }, a.node.SetTags)
+	return a.tags.change(func(map[string]string) map[string]string { return newTags }, a.node.SetTags)
 }

@@ -31,7 +31,8 @@ func parseConfig(t testing.TB, words ...string) config.Config {
 	return found
 }
 
-func start(t testing.TB, words ...string) (*App, *testkit.Output) {
+// startApp starts an agent on loopback with these flags, and returns it and its output.
+func startApp(t testing.TB, words ...string) (*App, *testkit.Output) {
 	t.Helper()
 	out := &testkit.Output{}
 	a, err := Start(parseConfig(t, words...), out)
@@ -43,7 +44,7 @@ func TestLife(t *testing.T) {
 	folder := t.TempDir()
 	handled, tags := filepath.Join(folder, "handled"), filepath.Join(folder, "tags")
 	words := []string{"-snapshot", filepath.Join(folder, "snapshot"), "-tags-file", tags, "-event-handler", "user=(echo $SERF_TAG_SIZE $SERF_USER_LTIME; cat) >> " + handled}
-	a, _ := start(t, words...)
+	a, _ := startApp(t, words...)
 	testkit.Must(t, a.UpdateTags(map[string]string{"x": "y"}, nil))
 	// As in Serf, a tag that is both set and deleted is set.
 	testkit.Must(t, a.UpdateTags(map[string]string{"size": "big"}, []string{"size", "x", "none"}))
@@ -64,7 +65,7 @@ func TestLife(t *testing.T) {
 	if err := json.Unmarshal([]byte(testkit.Read(t, tags)), &written); err != nil || !reflect.DeepEqual(written, map[string]string{"size": "big"}) {
 		t.Error(written, err)
 	}
-	again, _ := start(t, words...)
+	again, _ := startApp(t, words...)
 	testkit.Must(t, again.Fire("deploy", []byte("v3"), false))
 	testkit.Check(t, again.Close())
 	if text := testkit.Read(t, handled); !strings.HasSuffix(text, "big 3\nv3\n") {
@@ -79,36 +80,36 @@ func TestStartsThatFail(t *testing.T) {
 	listener, err := net.Listen("tcp", "127.0.0.1:0")
 	testkit.Must(t, err)
 	defer listener.Close()
-	in := func(name string) string { return filepath.Join(folder, name) }
-	first, _ := start(t, "-snapshot", in("locked"), "-record", in("recorded"))
+	pathOf := func(name string) string { return filepath.Join(folder, name) }
+	first, _ := startApp(t, "-snapshot", pathOf("locked"), "-record", pathOf("recorded"))
 	defer first.Close()
-	testkit.Must(t, syscall.Mkfifo(in("pipe"), 0o600))
-	missing := in("none/none")
+	testkit.Must(t, syscall.Mkfifo(pathOf("pipe"), 0o600))
+	missing := pathOf("none/none")
 	for _, test := range []struct{ words, says string }{
 		{"-event-handler foo=bar", "is not an event"},
 		{"-tag a=" + strings.Repeat("x", 600), "exceeds limit of 512"},
 		{"-rpc-addr " + listener.Addr().String(), "address already in use"},
 		{"-bind 192.0.2.1:7946", "assign requested address"},
-		{"-snapshot " + in("locked"), "-snapshot: " + in("locked") + ": another agent has"},
+		{"-snapshot " + pathOf("locked"), "-snapshot: " + pathOf("locked") + ": another agent has"},
 		{"-snapshot " + folder, "is not a regular file"},
-		{"-snapshot " + in("pipe"), "is not a regular file"},
+		{"-snapshot " + pathOf("pipe"), "is not a regular file"},
 		{"-snapshot " + missing, "folder of the file"},
 		{"-snapshot /sys/none", "is not writable"},
-		{"-snapshot " + in("both") + " -record " + in("both"), "-snapshot: " + in("both") + ": another agent has"},
-		{"-record " + in("recorded"), "-record: another program has"},
-		{"-record " + in("locked"), "-record: another program has"},
+		{"-snapshot " + pathOf("both") + " -record " + pathOf("both"), "-snapshot: " + pathOf("both") + ": another agent has"},
+		{"-record " + pathOf("recorded"), "-record: another program has"},
+		{"-record " + pathOf("locked"), "-record: another program has"},
 		{"-record " + folder, "is a directory"},
-		{"-record " + in("pipe"), "is not a regular file"},
+		{"-record " + pathOf("pipe"), "is not a regular file"},
 		{"-record " + file, "is not a record"},
 		{"-record " + missing, "no such file"},
 		{"-record /sys/none", "permission denied"},
 		{"-tags-file " + file, "-tags-file: invalid character"},
 		{"-tags-file " + folder, "-tags-file: " + folder + " is not a regular file"},
-		{"-tags-file " + in("pipe"), "is not a regular file"},
+		{"-tags-file " + pathOf("pipe"), "is not a regular file"},
 		{"-tags-file /dev/full", "is not a regular file"},
 		{"-keyring-file " + file, "is not a list of keys"},
 		{"-keyring-file " + folder, "is not a regular file"},
-		{"-keyring-file " + in("pipe"), "is not a regular file"},
+		{"-keyring-file " + pathOf("pipe"), "is not a regular file"},
 		{"-keyring-file " + missing, "no such file"},
 		{"-keyring-file /sys/none -encrypt cg8StVXbQJ0gPvMd9o7yrg==", "permission denied"},
 	} {
@@ -130,7 +131,7 @@ func TestStartsThatFail(t *testing.T) {
 func TestTagsThatCannotBeWritten(t *testing.T) {
 	folder := filepath.Join(t.TempDir(), "folder")
 	testkit.Must(t, os.Mkdir(folder, 0o700))
-	a, _ := start(t, "-tags-file", filepath.Join(folder, "tags"))
+	a, _ := startApp(t, "-tags-file", filepath.Join(folder, "tags"))
 	defer a.Close()
 	testkit.Check(t, a.UpdateTags(map[string]string{"size": "big"}, nil))
 	testkit.Must(t, os.RemoveAll(folder))
@@ -144,7 +145,7 @@ func TestTagsThatCannotBeWritten(t *testing.T) {
 
 func TestReload(t *testing.T) {
 	handled := filepath.Join(t.TempDir(), "handled")
-	a, out := start(t, "-event-handler", "user=echo one >> "+handled)
+	a, out := startApp(t, "-event-handler", "user=echo one >> "+handled)
 	testkit.Must(t, a.Reload(parseConfig(t, "-event-handler", "user=echo two >> "+handled, "-tag", "k=v", "-log-level", "err")))
 	if !reflect.DeepEqual(a.tags.all(), map[string]string{"k": "v"}) {
 		t.Error(a.tags.all())
@@ -160,10 +161,10 @@ func TestReload(t *testing.T) {
 	}
 }
 
-// A reload reads the file of tags again, and refuses the whole configuration if this file can't be read.
+// A reload reads the file of tags again. If this file can't be read, the reload refuses the whole configuration.
 func TestReloadOfTagsFile(t *testing.T) {
 	file := filepath.Join(t.TempDir(), "tags")
-	a, _ := start(t, "-tags-file", file)
+	a, _ := startApp(t, "-tags-file", file)
 	defer a.Close()
 	testkit.Must(t, a.UpdateTags(map[string]string{"v": "1"}, nil))
 	testkit.Write(t, file, `{"v": "2"}`)
@@ -175,7 +176,7 @@ func TestReloadOfTagsFile(t *testing.T) {
 	if err := a.Reload(parseConfig(t, "-tags-file", file, "-log-level", "err")); err == nil || !strings.Contains(err.Error(), "-tags-file") {
 		t.Error(err)
 	}
-	// Another file needs a restart, and so does none.
+	// A change to another file of tags needs a restart, and so does a change to no file.
 	for _, words := range [][]string{{"-tags-file", file + "2"}, {"-tag", "v=3"}} {
 		testkit.Must(t, a.Reload(parseConfig(t, words...)))
 		if tags := a.node.LocalMember().Tags; !reflect.DeepEqual(tags, map[string]string{"v": "2"}) {
@@ -184,7 +185,7 @@ func TestReloadOfTagsFile(t *testing.T) {
 	}
 }
 
-// SIGHUP names the settings that have changed and need a restart, and no others.
+// After SIGHUP, the agent names the settings that have changed and need a restart, and no others.
 func TestReloadNamesWhatNeedsARestart(t *testing.T) {
 	file := filepath.Join(t.TempDir(), "settings.json")
 	testkit.Write(t, file, `{"log_level": "debug", "bind": "localhost:0", "tags": {"v": "1"}}`)
@@ -246,7 +247,7 @@ func TestCheck(t *testing.T) {
 
 // The command members prints the members of a running agent.
 func TestMembersCommand(t *testing.T) {
-	a, _ := start(t, "-rpc-auth", "token", "-tag", "k=v")
+	a, _ := startApp(t, "-rpc-auth", "token", "-tag", "k=v")
 	defer a.Close()
 	at := a.server.Load().Addr().String()
 	for _, test := range []struct {
@@ -268,10 +269,10 @@ func TestMembersCommand(t *testing.T) {
 }
 
 func TestJoining(t *testing.T) {
-	a, _ := start(t)
+	a, _ := startApp(t)
 	defer a.Close()
 	address := a.node.Memberlist().LocalNode().Address()
-	b, out := start(t, "-node", "b", "-retry-join", address, "-retry-interval", "10ms")
+	b, out := startApp(t, "-node", "b", "-retry-join", address, "-retry-interval", "10ms")
 	testkit.Must(t, b.JoinAtStart(context.Background()))
 	testkit.Eventually(t, "both are members", func() bool { return len(a.Members()) == 2 && len(b.Members()) == 2 })
 	testkit.Eventually(t, "the join is logged", func() bool { return strings.Contains(out.String(), "Join completed") })
@@ -283,13 +284,13 @@ func TestJoining(t *testing.T) {
 		t.Error("a node that left joins")
 	}
 	testkit.Check(t, b.Close())
-	c, _ := start(t, "-node", "c", "-retry-join", "127.0.0.1:1", "-retry-interval", "10ms", "-retry-max", "2")
+	c, _ := startApp(t, "-node", "c", "-retry-join", "127.0.0.1:1", "-retry-interval", "10ms", "-retry-max", "2")
 	defer c.Close()
 	testkit.Must(t, c.JoinAtStart(context.Background()))
 	if err := <-c.endReason; err == nil || !strings.Contains(err.Error(), "in 3 attempts") {
 		t.Error(err)
 	}
-	d, _ := start(t, "-node", "d", "-join", "127.0.0.1:1")
+	d, _ := startApp(t, "-node", "d", "-join", "127.0.0.1:1")
 	defer d.Close()
 	if err := d.JoinAtStart(context.Background()); err == nil || !strings.Contains(err.Error(), "-join") {
 		t.Error(err)
@@ -310,7 +311,7 @@ func TestNamedAddresses(t *testing.T) {
 	testkit.Must(t, err)
 	port := free.Addr().(*net.TCPAddr).Port
 	free.Close()
-	a, _ := start(t, "-bind", fmt.Sprint("localhost:", port), "-rpc-addr", "localhost:0", "-advertise", "localhost:7999")
+	a, _ := startApp(t, "-bind", fmt.Sprint("localhost:", port), "-rpc-addr", "localhost:0", "-advertise", "localhost:7999")
 	defer a.Close()
 	node := a.node.Memberlist().LocalNode()
 	if !node.Addr.IsLoopback() || node.Port != 7999 || !a.server.Load().Addr().(*net.TCPAddr).IP.IsLoopback() {
@@ -326,7 +327,7 @@ func TestNamedAddresses(t *testing.T) {
 func TestFarClocksAreLogged(t *testing.T) {
 	path := filepath.Join(t.TempDir(), "snapshot")
 	testkit.Write(t, path, "clock: 4611686018427387904\nevent-clock: 18446744073709551614\nquery-clock: 9223372036854775807\n")
-	a, out := start(t, "-snapshot", path)
+	a, out := startApp(t, "-snapshot", path)
 	defer a.Close()
 	for _, says := range []string{"event-clock is at 18446744073709551615", "query-clock is at 9223372036854775808"} {
 		if !strings.Contains(out.String(), says) {
@@ -418,8 +419,8 @@ func TestMainSignals(t *testing.T) {
 		}()
 		testkit.Eventually(t, "the agent runs", func() bool { return strings.Contains(out.String(), "Log data will now stream") })
 		if test.words != nil {
-			// Before each write of members, the node checks whether the snapshot was changed. If it saw the missing file in the
-			// first of them, it would end before the signals.
+			// Before each write of members, the node checks whether the snapshot was changed. If it noticed the missing
+			// file at the first of these writes, it would end before the signals arrive.
 			testkit.Eventually(t, "the node is in its snapshot", func() bool { return strings.Contains(testkit.Read(t, path), "alive: a ") })
 			testkit.Must(t, os.Remove(path))
 		}

@@ -11,7 +11,7 @@ import (
 	"kitchenrue.example/serf"
 )
 
-// App is the backend of the command line's requests.
+// App is the backend for the requests of the command line.
 
 var _ rpc.Backend = &App{}
 
@@ -43,7 +43,7 @@ func (a *App) Leave() error {
 // Shutdown ends the agent.
 func (a *App) Shutdown() { a.requestEnd(nil) }
 
-// ForceLeave declares that a failed member has left.
+// ForceLeave declares that a failed member has left the cluster.
 func (a *App) ForceLeave(name string, prune bool) error {
 	if prune {
 		a.log.Printf("[INFO] agent: Force leaving node (prune): %s", name)
@@ -72,9 +72,9 @@ func (a *App) Coordinate(node string) (*coordinate.Coordinate, bool) {
 	return a.node.GetCachedCoordinate(node)
 }
 
-// Stats returns what `serf info` shows.
+// Stats returns the figures that `serf info` shows.
 func (a *App) Stats() map[string]map[string]string {
-	number := func(n int) string { return fmt.Sprint(n) }
+	decimal := func(n int) string { return fmt.Sprint(n) }
 	handlers := map[string]string{}
 	for _, script := range a.runner.Scripts() {
 		for _, filter := range script.Filters {
@@ -88,7 +88,7 @@ func (a *App) Stats() map[string]map[string]string {
 	waiting, waitingQueries := a.runner.Waiting()
 	agent := map[string]string{
 		"name": a.config.NodeName, "program": "kitchenrue-agent " + config.Version,
-		"handlers_waiting": number(waiting), "queries_waiting": number(waitingQueries),
+		"handlers_waiting": decimal(waiting), "queries_waiting": decimal(waitingQueries),
 		"handlers_unfinished": fmt.Sprint(a.runner.Unfinished()), "handlers_still_running": fmt.Sprint(a.runner.StillRunning()),
 	}
 	for result, count := range a.runner.Results() {
@@ -97,16 +97,16 @@ func (a *App) Stats() map[string]map[string]string {
 	return map[string]map[string]string{
 		"agent": agent,
 		"runtime": {
-			"os": runtime.GOOS, "arch": runtime.GOARCH, "version": runtime.Version(), "max_procs": number(runtime.GOMAXPROCS(0)),
-			"goroutines": number(runtime.NumGoroutine()), "cpu_count": number(runtime.NumCPU()),
+			"os": runtime.GOOS, "arch": runtime.GOARCH, "version": runtime.Version(), "max_procs": decimal(runtime.GOMAXPROCS(0)),
+			"goroutines": decimal(runtime.NumGoroutine()), "cpu_count": decimal(runtime.NumCPU()),
 		},
 		"serf": a.node.Stats(), "tags": a.tags.all(), "event_handlers": handlers,
 	}
 }
 
-// measured returns the figures for the metrics: those of Stats, and a 0 for each reason for which the guard has refused
-// nothing yet, so that a monitor sees the first refusal as an increase.
-func (a *App) measured() map[string]map[string]string {
+// metricFigures returns the figures for the metrics. These are the figures of Stats, and a 0 for each reason for which the
+// guard has refused nothing yet, so that a monitor sees the first refusal as an increase.
+func (a *App) metricFigures() map[string]map[string]string {
 	stats := a.Stats()
 	for _, name := range serf.RefusalNames() {
 		if _, ok := stats["serf"][name]; !ok {

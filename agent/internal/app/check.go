@@ -12,8 +12,8 @@ import (
 	"kitchenrue.example/agent/internal/logs"
 )
 
-// check checks what a start with this configuration would read, and starts and writes nothing. It doesn't check whether
-// the addresses are free, since an agent with the same configuration may be running.
+// check checks what a start with this configuration would read, but starts nothing and writes nothing. It doesn't check
+// whether the addresses are free, since an agent with the same configuration may be running.
 func check(conf config.Config) error {
 	if err := conf.Resolve(); err != nil {
 		return err
@@ -40,7 +40,7 @@ func check(conf config.Config) error {
 	return nil
 }
 
-// checkKeys reads the keys. If a start would write the file of keys, it only checks the folder of this file.
+// checkKeys reads the keys. If a start would write the keyring file, it only checks the folder of this file.
 func checkKeys(conf *config.Config) error {
 	key, err := conf.Key()
 	if err != nil {
@@ -56,7 +56,7 @@ func checkKeys(conf *config.Config) error {
 	return err
 }
 
-// checkPath checks that a file is a regular one, or that its folder exists.
+// checkPath checks that a file is a regular file or, if it doesn't exist, that its folder exists.
 func checkPath(path string) error {
 	if path == "" {
 		return nil

@@ -45,6 +45,7 @@ type stranger struct {
 	sent int
 }
 
+// strangerTo returns a stranger that sends its packets to this agent.
 func strangerTo(t *testing.T, a *App) *stranger {
 	t.Helper()
 	to, err := net.Dial("udp", a.node.Memberlist().LocalNode().Address())
@@ -53,6 +54,7 @@ func strangerTo(t *testing.T, a *App) *stranger {
 	return &stranger{T: t, to: to}
 }
 
+// send sends a message of Serf's, of this type, as one packet.
 func (s *stranger) send(kind byte, message interface{}) {
 	out := bytes.NewBuffer([]byte{userMessage, kind})
 	if err := codec.NewEncoder(out, &codec.MsgpackHandle{}).Encode(message); err != nil {
@@ -72,7 +74,7 @@ func (s *stranger) send(kind byte, message interface{}) {
 func TestFloodWithinOneTime(t *testing.T) {
 	folder := t.TempDir()
 	handled := filepath.Join(folder, "handled")
-	a, _ := start(t, "-snapshot", filepath.Join(folder, "snapshot"), "-keep-events", "-keep-events-size", fmt.Sprint(1<<20),
+	a, _ := startApp(t, "-snapshot", filepath.Join(folder, "snapshot"), "-keep-events", "-keep-events-size", fmt.Sprint(1<<20),
 		"-event-handler", "user:honest=cat >> "+handled)
 	defer a.Close()
 	s, payload := strangerTo(t, a), bytes.Repeat([]byte("x"), 480)
@@ -97,7 +99,7 @@ func TestFloodWithinOneTime(t *testing.T) {
 func TestFloodOfQueries(t *testing.T) {
 	path := filepath.Join(t.TempDir(), "snapshot")
 	words := []string{"-snapshot", path, "-keep-events"}
-	a, _ := start(t, words...)
+	a, _ := startApp(t, words...)
 	s := strangerTo(t, a)
 	for time := uint64(1); time < 4; time++ {
 		for id := uint32(0); id < 2000; id++ {
@@ -123,21 +125,22 @@ func TestFloodOfQueries(t *testing.T) {
 			t.Errorf("%d queries of time %d", count, time)
 		}
 	}
-	b, _ := start(t, words...)
+	b, _ := startApp(t, words...)
 	defer b.Close()
 	if b.Stats()["serf"]["query_time"] != "5" {
 		t.Error(b.Stats()["serf"]["query_time"])
 	}
 }
 
-// Events for which there is a handler have a line each, and a metric of their name, in a flood of others.
+// In a flood of other events, each event for which there is a handler still has a line in the log, and its name has a
+// metric.
 func TestFloodOfEventsWithoutHandler(t *testing.T) {
 	sink := metrics.NewInmemSink(time.Hour, 2*time.Hour)
 	conf := metrics.DefaultConfig("test")
 	conf.EnableHostname, conf.EnableRuntimeMetrics = false, false
 	_, err := metrics.NewGlobal(conf, sink)
 	testkit.Must(t, err)
-	a, out := start(t, "-event-handler", "user:deploy=true", "-event-handler", "user:other=true")
+	a, out := startApp(t, "-event-handler", "user:deploy=true", "-event-handler", "user:other=true")
 	defer a.Close()
 	s := strangerTo(t, a)
 	const flood = 300

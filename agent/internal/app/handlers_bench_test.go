@@ -31,7 +31,7 @@ func BenchmarkHandlers(b *testing.B) {
 				b.StopTimer()
 				folder := b.TempDir()
 				first := filepath.Join(folder, "first")
-				a, _ := start(b, "-keep-events", "-log-level", "info", "-snapshot", filepath.Join(folder, "snapshot"),
+				a, _ := startApp(b, "-keep-events", "-log-level", "info", "-snapshot", filepath.Join(folder, "snapshot"),
 					"-event-handler", "user:first=while ! [ -e "+first+" ]; do sleep 0.01; done", "-event-handler", "user:x=true", flag)
 				testkit.Must(b, a.Fire("first", nil, false))
 				for event := 0; event < 1000; event++ {

@@ -39,13 +39,13 @@ func (b *restartedNode) start(address string) {
 	if b.address != "" {
 		words = append(words, "-bind", b.address)
 	}
-	b.App, _ = start(b.t, words...)
+	b.App, _ = startApp(b.t, words...)
 	b.address = b.node.Memberlist().LocalNode().Address()
 	testkit.Must(b.t, b.JoinAtStart(context.Background()))
 }
 
-// has waits until this event was handled last, and returns all events that were handled.
-func (b *restartedNode) has(last string) string {
+// waitForHandled waits until the file of handled events ends with this one, and returns the words in the file.
+func (b *restartedNode) waitForHandled(last string) string {
 	b.t.Helper()
 	found := ""
 	testkit.Eventually(b.t, last, func() bool {
@@ -68,22 +68,22 @@ func TestEventsMissedWhileDown(t *testing.T) {
 		words []string
 		want  string
 	}{{[]string{"-keep-events"}, "present missed back"}, {nil, "present back"}} {
-		a, _ := start(t)
+		a, _ := startApp(t)
 		address := a.node.Memberlist().LocalNode().Address()
 		fire(t, a, "old")
 		b := startRestarted(t, address, test.words...)
 		fire(t, a, "present")
-		b.has("present")
+		b.waitForHandled("present")
 		testkit.Check(t, b.Close())
 		fire(t, a, "missed")
 		b.start(address)
 		if test.words != nil {
-			b.has("missed")
+			b.waitForHandled("missed")
 		}
 		fire(t, a, "back")
 		// Without the flag, the snapshot's rejoin, which ignores nothing, may be faster than the join that ignores old
 		// events.
-		if found := b.has("back"); found != test.want && (test.words != nil || found != "present missed back") {
+		if found := b.waitForHandled("back"); found != test.want && (test.words != nil || found != "present missed back") {
 			t.Errorf("%v: %q", test.words, found)
 		}
 		a.Close()
@@ -96,30 +96,30 @@ func TestEventBelowLastLine(t *testing.T) {
 	for _, test := range []struct {
 		word, want string
 	}{{"-keep-events", "own1 own2 early late"}, {"-replay", "own1 own2 late"}} {
-		a, _ := start(t)
+		a, _ := startApp(t)
 		address := a.node.Memberlist().LocalNode().Address()
 		fire(t, a, "early")
 		b := startRestarted(t, "", test.word)
 		fire(t, b.App, "own1")
 		fire(t, b.App, "own2")
-		b.has("own2")
+		b.waitForHandled("own2")
 		for i := 0; i < 2; i++ {
 			testkit.Check(t, b.Close())
 			b.start(address)
 		}
 		testkit.Eventually(t, "a received b's clock", func() bool { return a.Stats()["serf"]["event_time"] != "2" })
 		if strings.Contains(test.want, "early") {
-			b.has("early")
+			b.waitForHandled("early")
 		}
 		fire(t, a, "late")
-		if found := b.has("late"); found != test.want {
+		if found := b.waitForHandled("late"); found != test.want {
 			t.Errorf("%s: %q", test.word, found)
 		}
 		a.Close()
 	}
 }
 
-// The snapshot decides whether a life resumes: it has the line of an event, or of another member.
+// A life resumes if its snapshot shows an event's time or another member.
 func TestResumedLife(t *testing.T) {
 	for text, want := range map[string]bool{
 		"": false, "clock: 3\n": false, "alive: b 127.0.0.1:1\n": false, "alive: c 127.0.0.1:1\n": true, "event-clock: 3\n": true,
@@ -128,7 +128,7 @@ func TestResumedLife(t *testing.T) {
 		path := filepath.Join(t.TempDir(), "snapshot")
 		for _, keeps := range []string{"-keep-events", "-keep-events=false"} {
 			writeSnapshot(t, path, text)
-			b, _ := start(t, "-node", "b", "-snapshot", path, keeps)
+			b, _ := startApp(t, "-node", "b", "-snapshot", path, keeps)
 			if b.ignoresOld() == (want && keeps == "-keep-events") {
 				t.Errorf("%q, %s: %v", text, keeps, b.ignoresOld())
 			}
@@ -137,7 +137,7 @@ func TestResumedLife(t *testing.T) {
 	}
 }
 
-// writeSnapshot writes a snapshot, and notes for tests/library/snapshot_lives.py that the test itself wrote it.
+// writeSnapshot writes a snapshot, and records for tests/library/snapshot_lives.py that the test itself wrote it.
 func writeSnapshot(t testing.TB, path, text string) {
 	t.Helper()
 	testkit.Write(t, path, text)

@@ -16,7 +16,8 @@ import (
 	"kitchenrue.example/serf"
 )
 
-// Main runs an agent until it ends, or the command members or runs, and returns the exit status. Errors are written to errs, one on each line.
+// Main runs an agent until it ends, or runs the command members or the command runs. It returns the exit status, and
+// writes each error to errs in a separate line.
 func Main(args []string, out, errs io.Writer) int {
 	if len(args) > 0 {
 		switch args[0] {
@@ -60,8 +61,8 @@ func Main(args []string, out, errs io.Writer) int {
 	if err != nil {
 		return fail(errs, err)
 	}
-	measures.Watch(a.measured)
-	a.banner(out)
+	measures.Watch(a.metricFigures)
+	a.printBanner(out)
 	ctx, cancel := context.WithCancel(context.Background())
 	defer cancel()
 	if err := a.JoinAtStart(ctx); err != nil {
@@ -71,9 +72,9 @@ func Main(args []string, out, errs io.Writer) int {
 	return a.run(args, signals, out, errs)
 }
 
-// statusSnapshotChanged is the exit status if somebody changed the snapshot while the agent ran. A start from it may
-// run handlers again for events that they handled, so an operator has to look first, and systemd doesn't restart the
-// agent.
+// statusSnapshotChanged is the exit status if somebody changed the snapshot while the agent was running. A start from
+// this snapshot may run handlers again for events that they have already handled. So an operator has to inspect it
+// first, and systemd doesn't restart the agent.
 const statusSnapshotChanged = 3
 
 // fail writes an error in one line, and returns the exit status.
@@ -85,6 +86,7 @@ func fail(errs io.Writer, err error) int {
 	return 1
 }
 
+// failAll writes each error that isn't nil, and returns the last exit status, or 0 if there is no error.
 func failAll(errs io.Writer, errors ...error) int {
 	status := 0
 	for _, err := range errors {
@@ -95,7 +97,8 @@ func failAll(errs io.Writer, errors ...error) int {
 	return status
 }
 
-func (a *App) banner(out io.Writer) {
+// printBanner prints the node's name, addresses and main settings when the agent has started.
+func (a *App) printBanner(out io.Writer) {
 	snapshot := a.config.Snapshot
 	if snapshot == "" {
 		snapshot = "none: after a restart it doesn't know which events it handled"
@@ -128,7 +131,7 @@ func (a *App) run(args []string, signals <-chan os.Signal, out, errs io.Writer) 
 				continue
 			}
 			if sig == syscall.SIGINT && a.config.SkipLeaveOnInterrupt || sig == syscall.SIGTERM && !a.config.LeaveOnTerminate {
-				// Serf's status for an agent that ends without a leave.
+				// Serf's agent has this status too when it ends without a leave.
 				if failAll(errs, a.Close()) == statusSnapshotChanged {
 					return statusSnapshotChanged
 				}
@@ -139,8 +142,8 @@ func (a *App) run(args []string, signals <-chan os.Signal, out, errs io.Writer) 
 	}
 }
 
-// reloadFiles reads the configuration again, and applies its handlers, tags and log level. It names the other settings
-// that have changed. If the configuration can't be read, nothing changes.
+// reloadFiles reads the configuration again, and applies its handlers, tags and log level. It prints the names of the
+// other settings that have changed. If the configuration can't be read, nothing changes.
 func (a *App) reloadFiles(args []string, out io.Writer) {
 	conf, err := config.Parse(args, io.Discard)
 	if err == nil {
@@ -151,7 +154,7 @@ func (a *App) reloadFiles(args []string, out io.Writer) {
 		return
 	}
 	fmt.Fprintln(out, "==> Reloaded the configuration.")
-	if changed := a.configured.NeedRestart(conf); len(changed) > 0 {
+	if changed := a.configAsRead.NeedRestart(conf); len(changed) > 0 {
 		a.log.Printf("[WARN] agent: these settings have changed, and need a restart: %s", strings.Join(changed, ", "))
 	}
 }

@@ -7,9 +7,10 @@ import (
 	"time"
 )
 
-// The limit of the process's memory, in bytes, above which Go's garbage collector works harder: a base, a share for
-// each member, and a multiple of the bytes of kept events. Without a limit, a flood lets the heap grow to several times
-// of what is in use. The limit is set again every memoryInterval. GOMEMLIMIT overrides it.
+// The limit of the process's memory, in bytes, above which Go's garbage collector works harder. It is the sum of a
+// base, a share for each member, and a multiple of the bytes of kept events. Without a limit, a flood lets the heap
+// grow to several times the memory in use. The agent sets the limit again every memoryInterval. GOMEMLIMIT overrides
+// it.
 const (
 	memoryBase        = 24 << 20
 	memoryPerMember   = 2 << 10
@@ -17,6 +18,7 @@ const (
 	memoryInterval    = time.Second
 )
 
+// memoryLimit returns the memory limit in bytes for the current number of members.
 func (a *App) memoryLimit() int64 {
 	limit := int64(memoryBase) + memoryPerMember*int64(a.node.NumNodes())
 	if a.config.KeepEvents {
@@ -38,7 +40,7 @@ func gcPercentFor(used, limit int64) int {
 	return gcPercent
 }
 
-// memoryInUse returns how many bytes of memory Go has from the system.
+// memoryInUse returns how many bytes of memory the Go runtime holds from the system.
 func memoryInUse() int64 {
 	samples := []metrics.Sample{{Name: "/memory/classes/total:bytes"}, {Name: "/memory/classes/heap/released:bytes"}}
 	metrics.Read(samples)

@@ -10,7 +10,6 @@ import (
 	"kitchenrue.example/agent/internal/keyring"
 	"kitchenrue.example/agent/internal/record"
 	"kitchenrue.example/serf"
-	"kitchenrue.example/serfagent"
 )
 
 // Events that may be coalesced wait for at most coalescePeriod, or until none arrived for quietPeriod. These are the
@@ -84,8 +83,8 @@ func (a *App) wrapRecorder(conf *serf.Config) (cleanUp func(), err error) {
 	if err != nil {
 		return nil, fmt.Errorf("-record: %w", err)
 	}
-	conf.Wrap = func(agent serf.Agent, settings serfagent.Settings) (serf.Agent, error) {
-		recorded, err := record.Start(agent, file, a.config.NodeName, settings, a.log.Logger)
+	conf.Wrap = func(agent serf.Agent, opening serf.Opening) (serf.Agent, error) {
+		recorded, err := record.Start(agent, file, a.config.NodeName, opening, a.log.Logger)
 		if err != nil {
 			return nil, fmt.Errorf("-record: %w", err)
 		}

@@ -13,7 +13,7 @@ import (
 	"kitchenrue.example/serf"
 )
 
-// While the handlers have no room, they receive no events. When the agent ends, they receive all.
+// While the handlers have no room, they receive no events. When the agent ends, they receive all events.
 func TestHandlersWithoutRoom(t *testing.T) {
 	file := filepath.Join(t.TempDir(), "file")
 	scripts, err := handlers.ParseScripts([]string{"while [ ! -e " + file + " ]; do sleep 0.1; done"})

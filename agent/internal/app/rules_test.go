@@ -18,7 +18,7 @@ func TestMergedTags(t *testing.T) {
 func TestMemoryLimit(t *testing.T) {
 	folder := t.TempDir()
 	for words, want := range map[string]int64{"-replay": 0, "-keep-events": 3 << 20} {
-		a, _ := start(t, words, "-keep-events-size", fmt.Sprint(1<<20), "-snapshot", folder+"/"+words)
+		a, _ := startApp(t, words, "-keep-events-size", fmt.Sprint(1<<20), "-snapshot", folder+"/"+words)
 		if limit := a.memoryLimit(); limit != memoryBase+memoryPerMember+want {
 			t.Errorf("%s: %d", words, limit)
 		}

@@ -24,11 +24,11 @@ each. It only reads the files, so the agents may be running.
 The status is 1 if a file can't be read, and 2 if a file says nothing of handlers.
 `
 
-// statusUntracked is the exit status of runs if a file says nothing of handlers.
+// statusUntracked is the exit status of the command runs if a snapshot doesn't record what became of handlers.
 const statusUntracked = 2
 
-// optional is a flag that may be empty.
-func optional(to **string) func(string) error {
+// optionalFlag returns the function of a flag whose value may be empty. The pointer stays nil if the flag isn't set.
+func optionalFlag(to **string) func(string) error {
 	return func(value string) error {
 		*to = &value
 		return nil
@@ -42,8 +42,8 @@ func printRuns(args []string, out, errs io.Writer) int {
 	flags.SetOutput(io.Discard)
 	flags.BoolVar(&filter.Unfinished, "unfinished", false, "")
 	isJSON := flags.Bool("json", false, "")
-	flags.Func("event", "", optional(&filter.Name))
-	flags.Func("payload", "", optional(&filter.Payload))
+	flags.Func("event", "", optionalFlag(&filter.Name))
+	flags.Func("payload", "", optionalFlag(&filter.Payload))
 	err := flags.Parse(args)
 	switch {
 	case errors.Is(err, flag.ErrHelp):

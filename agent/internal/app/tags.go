@@ -15,12 +15,12 @@ import (
 // maxTagsFile is the maximum size in bytes of a file of tags.
 const maxTagsFile = 64 << 10
 
-// tags are this node's tags, and the file that keeps them.
+// tags has this node's tags, and the path of the file that keeps them.
 type tags struct {
 	path string
 
-	// changing is held during a change until the file is written and the tags are announced. mu protects current.
-	changing sync.Mutex
+	// changeMu is held during a change until the file is written and the tags are announced. mu protects current.
+	changeMu sync.Mutex
 	mu       sync.Mutex
 	current  map[string]string
 }
@@ -74,14 +74,14 @@ func (t *tags) all() map[string]string {
 
 // change changes the tags, writes them to the file, and announces them.
 func (t *tags) change(update func(map[string]string) map[string]string, announce func(map[string]string) error) error {
-	t.changing.Lock()
-	defer t.changing.Unlock()
-	next := update(t.all())
-	if err := serf.ValidateTags(next); err != nil {
+	t.changeMu.Lock()
+	defer t.changeMu.Unlock()
+	newTags := update(t.all())
+	if err := serf.ValidateTags(newTags); err != nil {
 		return err
 	}
 	if t.path != "" {
-		data, err := json.MarshalIndent(next, "", "  ")
+		data, err := json.MarshalIndent(newTags, "", "  ")
 		if err != nil {
 			return err
 		}
@@ -90,9 +90,9 @@ func (t *tags) change(update func(map[string]string) map[string]string, announce
 		}
 	}
 	t.mu.Lock()
-	t.current = next
+	t.current = newTags
 	t.mu.Unlock()
-	return announce(next)
+	return announce(newTags)
 }
 
 // mergeTags returns the tags with some removed and others set. As in Serf, a tag that is both removed and set is set.

@@ -15,51 +15,54 @@ import (
 // life is a life of an agent that keeps its events, over a snapshot and a file that its handlers write.
 type life struct {
 	*App
-	t   *testing.T
-	out *testkit.Output
-	ran string
+	t       *testing.T
+	out     *testkit.Output
+	ranFile string
 }
 
-// tracked starts agents over one folder.
-func tracked(t *testing.T) func(words ...string) *life {
+// lifeStarter returns a function that starts agents, each over the same folder.
+func lifeStarter(t *testing.T) func(words ...string) *life {
 	folder := t.TempDir()
 	ran := filepath.Join(folder, "ran")
 	return func(words ...string) *life {
 		t.Helper()
-		a, out := start(t, append([]string{"-keep-events", "-snapshot", filepath.Join(folder, "snapshot"), "-event-handler",
+		a, out := startApp(t, append([]string{"-keep-events", "-snapshot", filepath.Join(folder, "snapshot"), "-event-handler",
 			fmt.Sprintf("user=read WORD; echo $WORD >>%s; while [ -e %s/$WORD ]; do sleep 0.01; done; echo end $WORD >>%s", ran, folder, ran)}, words...)...)
 		return &life{a, t, out, ran}
 	}
 }
 
 // block makes the handler of this event run until unblock is called.
-func (l *life) block(word string) { testkit.Write(l.t, filepath.Join(filepath.Dir(l.ran), word), "") }
-
-func (l *life) unblock(word string) {
-	testkit.Must(l.t, os.Remove(filepath.Join(filepath.Dir(l.ran), word)))
+func (l *life) block(word string) {
+	testkit.Write(l.t, filepath.Join(filepath.Dir(l.ranFile), word), "")
 }
 
-// has waits until the handlers have written this.
-func (l *life) has(want string) {
+func (l *life) unblock(word string) {
+	testkit.Must(l.t, os.Remove(filepath.Join(filepath.Dir(l.ranFile), word)))
+}
+
+// waitForHandled waits until the handlers have written this.
+func (l *life) waitForHandled(want string) {
 	l.t.Helper()
 	testkit.Eventually(l.t, want, func() bool {
-		text, err := os.ReadFile(l.ran)
+		text, err := os.ReadFile(l.ranFile)
 		return err == nil && strings.HasPrefix(strings.Join(strings.Fields(string(text)), " "), want)
 	})
-	if found := strings.Join(strings.Fields(testkit.Read(l.t, l.ran)), " "); found != want {
+	if found := strings.Join(strings.Fields(testkit.Read(l.t, l.ranFile)), " "); found != want {
 		l.t.Errorf("%q, and not %q", found, want)
 	}
 }
 
-// SIGTERM leaves open what waits, and lets the handler that runs end. The next start runs what waited, before what is new.
+// After SIGTERM, the waiting events stay open, and the running handler may end. After the next start, the handlers of
+// these events run before those of new events.
 func TestOrderlyEndLeavesOpen(t *testing.T) {
-	begin := tracked(t)
+	begin := lifeStarter(t)
 	a := begin()
 	a.block("one")
 	for _, word := range []string{"one", "two", "three"} {
 		fire(t, a.App, word)
 	}
-	a.has("one")
+	a.waitForHandled("one")
 	signals, ended := make(chan os.Signal, 1), make(chan int)
 	go func() { ended <- a.run(nil, signals, a.out, a.out) }()
 	signals <- syscall.SIGTERM
@@ -69,14 +72,14 @@ func TestOrderlyEndLeavesOpen(t *testing.T) {
 	if status := <-ended; status != 1 {
 		t.Error(status)
 	}
-	a.has("one end one")
+	a.waitForHandled("one end one")
 	if text := runsOf(t, 0, a.config.Snapshot); !strings.Contains(text, "1 x one exit 0 read\n2 x two waiting\n3 x three waiting\n") {
 		t.Error(text)
 	}
 
 	b := begin()
 	fire(t, b.App, "new")
-	b.has("one end one two end two three end three new end new")
+	b.waitForHandled("one end one two end two three end three new end new")
 	testkit.Eventually(t, "all is done", func() bool { return b.Stats()["serf"]["events_open"] == "0" })
 	if stats := b.Stats()["agent"]; stats["handlers_unfinished"] != "0" || b.out.Has("[WARN] agent: a handler") {
 		t.Error(stats, b.out)
@@ -84,19 +87,21 @@ func TestOrderlyEndLeavesOpen(t *testing.T) {
 	testkit.Check(t, b.Close())
 }
 
-// What a kill cuts off is reported at the next start, and counted. With -track-handlers=false nothing is tracked.
+// The next start logs and counts the handlers that a kill cut off. With -track-handlers=false, nothing is tracked.
 func TestCutOffHandlerIsReported(t *testing.T) {
-	begin := tracked(t)
+	begin := lifeStarter(t)
 	a := begin()
 	a.block("one")
 	fire(t, a.App, "one")
 	fire(t, a.App, "two")
-	a.has("one")
-	// (what a kill leaves)
+	a.waitForHandled("one")
+	// (a handler's own line can be there before the agent has recorded the process)
+	testkit.Eventually(t, "the process is recorded", func() bool { return strings.Contains(testkit.Read(t, a.config.Snapshot), "\n#process 1 ") })
+	// (this is the snapshot that a kill would leave)
 	snapshot := testkit.Read(t, a.config.Snapshot)
 	a.unblock("one")
 	testkit.Check(t, a.Close())
-	testkit.Must(t, os.Remove(a.ran))
+	testkit.Must(t, os.Remove(a.ranFile))
 	writeSnapshot(t, a.config.Snapshot, snapshot)
 
 	if text := runsOf(t, 0, "-unfinished", a.config.Snapshot); !strings.Contains(text, "1 x one cut off read (process ") || !strings.Contains(text, ")\n2 x two waiting\n") {
@@ -104,7 +109,7 @@ func TestCutOffHandlerIsReported(t *testing.T) {
 	}
 
 	b := begin()
-	b.has("two end two")
+	b.waitForHandled("two end two")
 	// (a handler's own line can be there before the agent's)
 	testkit.Eventually(t, "two is done", func() bool {
 		return strings.HasSuffix(runsOf(t, 0, "-unfinished", b.config.Snapshot), "\n1 x one cut off read\n")
@@ -118,7 +123,7 @@ func TestCutOffHandlerIsReported(t *testing.T) {
 	writeSnapshot(t, a.config.Snapshot, snapshot)
 	c := begin("-track-handlers=false")
 	fire(t, c.App, "three")
-	c.has("two end two three end three")
+	c.waitForHandled("two end two three end three")
 	if !c.out.Has("2 events that an earlier life was handed and that are not done are forgotten") {
 		t.Error(c.out)
 	}
@@ -138,7 +143,8 @@ func runsOf(t *testing.T, want int, words ...string) string {
 	return regexp.MustCompile(" +").ReplaceAllString(out.String(), " ")
 }
 
-// The command reads the files of several nodes, and writes none of them. If one can't be read, it prints the others.
+// The command runs reads the snapshots of several nodes, and writes none of them. If it can't read one of them, it
+// prints the others.
 func TestRunsCommand(t *testing.T) {
 	folder := t.TempDir()
 	text := "#done 0\n#ran 0\n#event 1 61 62\n#begun 1 61 62\n#done 1 61 62\n#ran 1 61 62 x=0\n#event 2 61 63\ntorn"

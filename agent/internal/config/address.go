@@ -17,7 +17,8 @@ type Address struct {
 
 func (a Address) String() string { return net.JoinHostPort(a.Host, strconv.Itoa(a.Port)) }
 
-// ParseAddress reads HOST, HOST:PORT, [IPV6] or [IPV6]:PORT. port is the default. It doesn't resolve names.
+// ParseAddress parses HOST, HOST:PORT, [IPV6] or [IPV6]:PORT. If the text has no port, the result has the given one.
+// ParseAddress doesn't resolve names.
 func ParseAddress(text string, port int) (Address, error) {
 	host := text
 	if strings.HasPrefix(text, "[") && strings.HasSuffix(text, "]") {
@@ -37,7 +38,7 @@ func ParseAddress(text string, port int) (Address, error) {
 }
 
 // ParseIP is ParseAddress for an address that Resolve has resolved. A host that is not an IP address is an error,
-// because memberlist would take it for all addresses of the machine.
+// because memberlist would treat it as all addresses of the machine.
 func ParseIP(text string) (Address, error) {
 	address, err := ParseAddress(text, BindPort)
 	if err == nil && net.ParseIP(address.Host) == nil {
@@ -65,7 +66,7 @@ var lookupIP = net.DefaultResolver.LookupIPAddr
 
 // Resolved returns the address with an IP address as its host. A name is resolved to its first IPv4 address, or, if it
 // has none, to its first address, as Go's net.Dial does. A name that resolves to all addresses of the machine is an
-// error, since 0.0.0.0 is for that.
+// error. The operator can write 0.0.0.0 for that.
 func (a Address) Resolved() (Address, error) {
 	if ip := net.ParseIP(a.Host); ip != nil {
 		return Address{ip.String(), a.Port}, nil
@@ -155,6 +156,7 @@ func (c *Config) Resolve() error {
 	return nil
 }
 
+// resolveText parses an address that must name its host, and resolves the host.
 func resolveText(text string, port int) (Address, error) {
 	address, err := parseWithHost(text, port)
 	if err != nil {

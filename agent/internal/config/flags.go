@@ -40,7 +40,7 @@ func Parse(args []string, out io.Writer) (Config, error) {
 	flags.Func("config-file", "JSON file of settings (repeatable)", addFiles(func(path string) ([]string, error) { return []string{path}, nil }))
 	flags.Func("config-dir", "folder whose *.json files are read in the order of their names", addFiles(filesIn))
 	if err := flags.Parse(args); errors.Is(err, flag.ErrHelp) {
-		usage(out)
+		printUsage(out)
 		return Config{}, ErrHelp
 	} else if err != nil {
 		return Config{}, err
@@ -63,7 +63,8 @@ func Parse(args []string, out io.Writer) (Config, error) {
 	return config, config.validate()
 }
 
-func usage(out io.Writer) {
+// printUsage prints the help text.
+func printUsage(out io.Writer) {
 	fmt.Fprint(out, "usage: kitchenrue-agent [flags]\n       kitchenrue-agent members [-rpc-addr ADDRESS] [-rpc-auth TOKEN]\n       kitchenrue-agent runs [-unfinished] [-json] [-event NAME] [-payload TEXT] FILE\n       kitchenrue-agent runs [-unfinished] [-json] [-event NAME] [-payload TEXT] NODE=FILE..\n\nAn agent for a Serf cluster that runs its handlers at most once for each event.\n\n")
 	for _, setting := range settings {
 		if setting.flag != "" {
@@ -74,7 +75,7 @@ func usage(out io.Writer) {
 	fmt.Fprintf(out, "  -%-20s %s\n", "config-dir", "folder whose *.json files are read in the order of their names (repeatable)")
 }
 
-// flagVar collects a flag's values. They are set after the files are read.
+// flagVar collects a flag's values. Parse applies them after it has read the files.
 type flagVar struct {
 	setting     *setting
 	assignments *[]assignment

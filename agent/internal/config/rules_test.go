@@ -7,7 +7,7 @@ import (
 	"testing"
 )
 
-// Each number has a minimum, which is accepted, and nothing below it is.
+// Each number has a minimum. The minimum is accepted, and smaller numbers are refused.
 func TestMinimaOfNumbers(t *testing.T) {
 	for flag, min := range map[string]int{"-max-members": 1, "-max-names-per-address": 1, "-retry-max": 0} {
 		for value, want := range map[int]string{min: "", min - 1: fmt.Sprintf("%s: %d is below %d", flag, min-1, min)} {

@@ -13,23 +13,24 @@ import (
 	"kitchenrue.example/serf"
 )
 
-// A handler has its own process group, so it may outlive its agent. The next life finds it by its process, which the snapshot names, or by its
-// environment.
+// A handler has a separate process group, so it may outlive its agent. The next life finds the handler by the process
+// that the snapshot names, or by the environment of its process.
 
-// How awaitEarlier ended: the earlier handler has ended or isn't known, it is still running after the timeout, or the agent is shutting down.
-type awaited int
+// awaitResult is how awaitEarlier ended: the earlier handler has ended or isn't known, it is still running after the
+// timeout, or the agent is shutting down.
+type awaitResult int
 
 const (
-	earlierEnded awaited = iota
-	earlierRuns
-	agentEnds
+	earlierEnded awaitResult = iota
+	earlierStillRuns
+	agentIsEnding
 )
 
 // earlierCheckInterval is how often the agent checks whether a handler of an earlier life has ended.
 const earlierCheckInterval = 100 * time.Millisecond
 
-// awaitEarlier waits until the handler of an earlier life has ended, for the timeout of handlers.
-func (r *Runner) awaitEarlier(ctx context.Context, e Unfinished) awaited {
+// awaitEarlier waits until the handler of an earlier life has ended, but not longer than the timeout of handlers.
+func (r *Runner) awaitEarlier(ctx context.Context, e Unfinished) awaitResult {
 	if e.process == nil || !e.process.IsRunning() {
 		return earlierEnded
 	}
@@ -39,22 +40,22 @@ func (r *Runner) awaitEarlier(ctx context.Context, e Unfinished) awaited {
 	for began := time.Now(); e.process.IsRunning(); {
 		if r.timeout > 0 && time.Since(began) > r.timeout {
 			r.log.Printf("[WARN] agent: a handler of %s is still running as process %d after %v, and nothing runs for it", describe(e.UserEvent), e.process.PID, r.timeout)
-			return earlierRuns
+			return earlierStillRuns
 		}
 		if r.isClosing.Load() {
-			return agentEnds
+			return agentIsEnding
 		}
 		select {
 		case <-ctx.Done():
-			return agentEnds
+			return agentIsEnding
 		case <-ticker.C:
 		}
 	}
 	return earlierEnded
 }
 
-// earlierHandlers are the processes that look like handlers of user events, by their environments. They are searched once, when they are
-// needed.
+// earlierHandlers has the processes whose environments look like those of handlers of user events. The search runs
+// once, when a process is first needed.
 type earlierHandlers struct {
 	isSearched bool
 	found      []earlierHandler
@@ -65,8 +66,8 @@ type earlierHandler struct {
 	environment map[string]string
 }
 
-// find returns the process of a handler that an earlier life started for an event, or nil. It is for a life that was killed before it could
-// record that process.
+// find returns the process of a handler that an earlier life started for an event, or nil. It is needed if that life
+// was killed before it could record the process.
 func (h *earlierHandlers) find(node string, e serf.UserEvent) *serf.HandlerProcess {
 	if !h.isSearched {
 		h.isSearched, h.found = true, searchHandlers()
@@ -104,8 +105,9 @@ func searchHandlers() (found []earlierHandler) {
 	return found
 }
 
-// isHandlerProcess reports whether a process leads a process group and no session. The agent starts its handlers this way. A process that a
-// handler left in the background leads neither, and a service that it started leads both.
+// isHandlerProcess reports whether a process leads a process group but not a session. The agent starts its handlers
+// this way. A process that a handler left in the background leads neither, and a service that a handler started leads
+// both.
 func isHandlerProcess(pid int) bool {
 	group, err := syscall.Getpgid(pid)
 	if err != nil || group != pid {

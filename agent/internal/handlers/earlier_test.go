@@ -15,8 +15,8 @@ import (
 	"kitchenrue.example/serf"
 )
 
-// outliving starts a process as a handler of an earlier life, which runs until end is called.
-func outliving(t *testing.T, attributes *syscall.SysProcAttr, environment ...string) (process serf.HandlerProcess, end func()) {
+// startEarlierHandler starts a process as a handler of an earlier life, which runs until end is called.
+func startEarlierHandler(t *testing.T, attributes *syscall.SysProcAttr, environment ...string) (process serf.HandlerProcess, end func()) {
 	t.Helper()
 	command := exec.Command("/bin/sh", "-c", "read line")
 	command.SysProcAttr, command.Env = attributes, append(os.Environ(), environment...)
@@ -37,21 +37,22 @@ func outliving(t *testing.T, attributes *syscall.SysProcAttr, environment ...str
 	return process, end
 }
 
-// cutOffIn returns an event of an earlier life that was cut off in a process.
+// cutOffIn returns an event of an earlier life whose handler was cut off while this process ran it.
 func cutOffIn(name string, process serf.HandlerProcess) serf.UnfinishedEvent {
-	e := unfinished(name, "a", 1)
+	e := unfinishedEvent(name, "a", 1)
 	e.Process = &process
 	return e
 }
 
-// What runs for an event that was cut off waits until the earlier handler has ended, so that two never run at once.
+// A handler for an event that was cut off waits until the earlier handler has ended, so that the two never run at the
+// same time.
 func TestEarlierHandlerIsAwaited(t *testing.T) {
 	t.Parallel()
 	for _, kind := range []string{"rerun", "unfinished"} {
-		process, end := outliving(t, nil)
+		process, end := startEarlierHandler(t, nil)
 		ran := filepath.Join(t.TempDir(), "ran")
 		r, tracker, output := trackedRunner(t, time.Minute, kind+":deploy=echo ran >"+ran)
-		r.Resume([]serf.UnfinishedEvent{cutOffIn("deploy", process), unfinished("deploy", "gone", 2)})
+		r.Resume([]serf.UnfinishedEvent{cutOffIn("deploy", process), unfinishedEvent("deploy", "gone", 2)})
 		testkit.Eventually(t, "it waits", func() bool {
 			return output.Has("what runs for it now waits for its end") || strings.Contains(tracker.list(), "again")
 		})
@@ -75,7 +76,7 @@ func TestEarlierHandlerIsAwaited(t *testing.T) {
 // the event stays open.
 func TestEarlierHandlerThatDoesNotEnd(t *testing.T) {
 	t.Parallel()
-	process, _ := outliving(t, nil)
+	process, _ := startEarlierHandler(t, nil)
 	r, tracker, output := trackedRunner(t, 200*time.Millisecond, "rerun:deploy=echo ran")
 	r.Resume([]serf.UnfinishedEvent{cutOffIn("deploy", process)})
 	tracker.waitUntil(t, "done a before=still-running")
@@ -96,7 +97,7 @@ func TestEarlierHandlerThatDoesNotEnd(t *testing.T) {
 // If nothing runs for the event, the agent reports whether the earlier handler is still running.
 func TestEarlierHandlerIsReported(t *testing.T) {
 	t.Parallel()
-	process, end := outliving(t, nil)
+	process, end := startEarlierHandler(t, nil)
 	for _, isRunning := range []bool{true, false} {
 		r, tracker, output := trackedRunner(t, 0, "user:deploy=echo ran")
 		r.Resume([]serf.UnfinishedEvent{cutOffIn("deploy", process)})
@@ -117,14 +118,14 @@ func TestEarlierHandlerIsReported(t *testing.T) {
 // its event, and by its process group, which it leads. Processes that the handler itself started are not taken for the handler.
 func TestEarlierHandlerIsFoundByItsEnvironment(t *testing.T) {
 	t.Parallel()
-	of := func(node, event string, time int) []string {
+	environmentOf := func(node, event string, time int) []string {
 		return []string{"SERF_SELF_NAME=" + node, "SERF_USER_EVENT=" + event, fmt.Sprintf("SERF_USER_LTIME=%d", time)}
 	}
 	node := fmt.Sprintf("finder-%d", os.Getpid())
-	process, _ := outliving(t, &syscall.SysProcAttr{Setpgid: true}, of(node, "deploy", 7)...)
-	outliving(t, nil, of(node, "background", 7)...)
-	outliving(t, &syscall.SysProcAttr{Setsid: true}, of(node, "service", 7)...)
-	outliving(t, &syscall.SysProcAttr{Setpgid: true})
+	process, _ := startEarlierHandler(t, &syscall.SysProcAttr{Setpgid: true}, environmentOf(node, "deploy", 7)...)
+	startEarlierHandler(t, nil, environmentOf(node, "background", 7)...)
+	startEarlierHandler(t, &syscall.SysProcAttr{Setsid: true}, environmentOf(node, "service", 7)...)
+	startEarlierHandler(t, &syscall.SysProcAttr{Setpgid: true})
 	for _, test := range []struct {
 		node, event string
 		time        int
@@ -138,7 +139,7 @@ func TestEarlierHandlerIsFoundByItsEnvironment(t *testing.T) {
 	}
 	r, tracker, output := trackedRunner(t, 0, "rerun:deploy=echo ran")
 	r.self = func() Self { return Self{Name: node} }
-	r.Resume([]serf.UnfinishedEvent{unfinished("deploy", "a", 1)})
+	r.Resume([]serf.UnfinishedEvent{unfinishedEvent("deploy", "a", 1)})
 	testkit.Eventually(t, "it waits", func() bool { return output.Has("waits for its end") })
 	r.Close(0)
 	if calls := tracker.list(); calls != "" {
@@ -146,14 +147,15 @@ func TestEarlierHandlerIsFoundByItsEnvironment(t *testing.T) {
 	}
 }
 
-// The process of each handler of a user event is recorded while it is running, under its name. Those of other events aren't.
+// The process of each handler of a user event is recorded while it is running, with the handler's name. Processes of
+// handlers of other events aren't recorded.
 func TestProcessesAreRecorded(t *testing.T) {
 	t.Parallel()
 	pids := filepath.Join(t.TempDir(), "pids")
 	r, tracker, output := trackedRunner(t, 0, "user:deploy,unfinished:deploy=echo $$ >>"+pids, "query=true", "rerun:deploy=exec true")
 	r.Add(&serf.Query{Name: "load"})
-	r.Add(user("deploy", "a"))
-	r.Resume([]serf.UnfinishedEvent{unfinished("deploy", "b", 1)})
+	r.Add(userEventOf("deploy", "a"))
+	r.Resume([]serf.UnfinishedEvent{unfinishedEvent("deploy", "b", 1)})
 	tracker.waitUntil(t, "begin a, done a echo=0 true-2=0, again b, done b =cut-off unfinished:echo=0 rerun:true-2=0")
 	r.Close(time.Minute)
 	var names, found []string
@@ -183,7 +185,7 @@ func TestStatuses(t *testing.T) {
 		}
 		r, tracker, _ := trackedRunner(t, timeout, "user="+script)
 		r.log.SetOutput(io.Discard)
-		r.Add(user("deploy", "a"))
+		r.Add(userEventOf("deploy", "a"))
 		tracker.waitUntil(t, "begin a, done a "+want)
 		r.Close(time.Minute)
 	}

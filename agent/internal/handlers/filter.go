@@ -30,7 +30,7 @@ func nameOf(e serf.Event) string {
 	return ""
 }
 
-// Filters match the events that any of them matches.
+// Filters match an event if at least one of them matches it.
 type Filters []Filter
 
 // Matches reports whether a filter matches the event.
@@ -46,17 +46,18 @@ func (filters Filters) Matches(e serf.Event) bool {
 // ParseFilters reads filters separated by commas: *, a kind, user:NAME or query:NAME. An empty text is *.
 func ParseFilters(text string) (Filters, error) { return parseFilters(text, "") }
 
-// parseFilters is ParseFilters for handlers if ownKinds is handlerKinds, whose kinds may have a name too.
-func parseFilters(text, ownKinds string) (Filters, error) {
+// parseFilters is ParseFilters with additional kinds: if extraKinds is handlerKindsHint, it also accepts the kinds of filters
+// that only handlers can have, with or without a name.
+func parseFilters(text, extraKinds string) (Filters, error) {
 	if text == "" {
 		return Filters{{Kind: "*"}}, nil
 	}
 	var filters Filters
 	for _, word := range strings.Split(text, ",") {
 		kind, name, hasName := strings.Cut(word, ":")
-		isOwn := (kind == unfinishedKind || kind == rerunKind) && ownKinds != ""
+		isExtra := (kind == unfinishedKind || kind == rerunKind) && extraKinds != ""
 		switch {
-		case kind == "user", kind == "query", isOwn:
+		case kind == "user", kind == "query", isExtra:
 			if hasName && name == "" {
 				return nil, fmt.Errorf("the filter %q has no name after the colon", word)
 			}
@@ -65,18 +66,17 @@ func parseFilters(text, ownKinds string) (Filters, error) {
 				return nil, fmt.Errorf("the filter %q doesn't accept a name", word)
 			}
 		default:
-			return nil, fmt.Errorf("%q is not an event: use *, member-join, member-leave, member-failed, member-update, member-reap, user, user:NAME, query or query:NAME%s", word, ownKinds)
+			return nil, fmt.Errorf("%q is not an event: use *, member-join, member-leave, member-failed, member-update, member-reap, user, user:NAME, query or query:NAME%s", word, extraKinds)
 		}
 		filters = append(filters, Filter{kind, name})
 	}
 	return filters, nil
 }
 
-// handlerKinds says which kinds of filters handlers have in addition.
-const handlerKinds = ", or for a user event unfinished:NAME or rerun:NAME"
+// handlerKindsHint is the part of an error message that lists the kinds of filters that only handlers can have.
+const handlerKindsHint = ", or for a user event unfinished:NAME or rerun:NAME"
 
-// Script is a handler. /bin/sh -c runs Command for each event that Filters match. Name is its name in metrics, which no
-// other script has.
+// Script is a handler. /bin/sh -c runs Command for each event that Filters match. Name is its unique name in metrics.
 type Script struct {
 	Filters Filters
 	Command string
@@ -92,7 +92,7 @@ func ParseScript(text string) (Script, error) {
 	if strings.TrimSpace(command) == "" {
 		return Script{}, fmt.Errorf("the handler %q has no script", text)
 	}
-	parsed, err := parseFilters(filters, handlerKinds)
+	parsed, err := parseFilters(filters, handlerKindsHint)
 	if err != nil {
 		return Script{}, fmt.Errorf("the handler %q: %w", text, err)
 	}

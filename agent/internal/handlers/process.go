@@ -13,36 +13,36 @@ import (
 	"kitchenrue.example/serf"
 )
 
-// MaxOutput is how many bytes of a script's output are kept: the last ones.
+// MaxOutput is the maximum number of bytes of a script's output that are kept. They are the last ones.
 const MaxOutput = 8 << 10
 
-// killDelay is the time between a script's SIGTERM and its SIGKILL. outputDelay is how long the output of processes
-// that a script left behind is still read.
+// killDelay is the time between a script's SIGTERM and its SIGKILL. outputDelay is how long the agent still reads the
+// output of processes that a script left behind.
 const (
 	killDelay   = 5 * time.Second
 	outputDelay = time.Second
 )
 
-// ErrTimeout says that a script ran too long, and was ended together with the processes it started.
+// ErrTimeout is the error of a script that ran too long and was ended, together with the processes that it started.
 var ErrTimeout = errors.New("it ran too long and was ended")
 
-// ErrCutOff says that a script was ended because the agent is shutting down.
+// ErrCutOff is the error of a script that was ended because the agent is shutting down.
 var ErrCutOff = errors.New("it was ended, since the agent is shutting down")
 
-// tail keeps the last MaxOutput bytes that are written to it.
-type tail struct {
+// lastBytes keeps the last MaxOutput bytes that are written to it.
+type lastBytes struct {
 	bytes []byte
 	total int64
 }
 
-func (t *tail) Write(data []byte) (int, error) {
+func (t *lastBytes) Write(data []byte) (int, error) {
 	t.total += int64(len(data))
 	if len(data) >= MaxOutput {
 		t.bytes = append(t.bytes[:0], data[len(data)-MaxOutput:]...)
 		return len(data), nil
 	}
-	if over := len(t.bytes) + len(data) - MaxOutput; over > 0 {
-		t.bytes = append(t.bytes[:0], t.bytes[over:]...)
+	if excess := len(t.bytes) + len(data) - MaxOutput; excess > 0 {
+		t.bytes = append(t.bytes[:0], t.bytes[excess:]...)
 	}
 	t.bytes = append(t.bytes, data...)
 	return len(data), nil
@@ -89,7 +89,7 @@ func (r scriptResult) status() string {
 	return serf.RanNotStarted
 }
 
-// lastOutput says what the script wrote last.
+// lastOutput describes the last output of the script.
 func (r scriptResult) lastOutput() string {
 	if len(r.output) == 0 {
 		return "it wrote nothing"
@@ -97,11 +97,11 @@ func (r scriptResult) lastOutput() string {
 	return "its output ends with " + quoted(r.output, loggedOutput, true)
 }
 
-// notStarted is why a script could not be started.
+// notStarted is the error of a script that could not be started.
 type notStarted struct{ error }
 
-// runScript runs a command by the shell in its own process group, until it ends or ctx does. It calls started with the process when that has
-// started.
+// runScript runs a command in a shell that has a separate process group, until the command ends or ctx does. After the
+// process was started, runScript calls started with its process ID.
 func runScript(ctx context.Context, command string, env []string, stdin []byte, started func(pid int)) scriptResult {
 	cmd := exec.Command("/bin/sh", "-c", command)
 	cmd.Env = append(os.Environ(), env...)
@@ -115,24 +115,24 @@ func runScript(ctx context.Context, command string, env []string, stdin []byte, 
 	if err := cmd.Start(); err != nil {
 		return scriptResult{err: notStarted{err}}
 	}
-	// (no other process has its number before waitFor)
+	// (the process ID can't be reused before waitFor)
 	started(cmd.Process.Pid)
-	pipes.closeChild()
+	pipes.closeChildEnds()
 	if !isWritten {
 		go pipes.writeInput(stdin)
 	}
-	outputRead := make(chan *tail, 1)
+	outputDone := make(chan *lastBytes, 1)
 	go func() {
-		var kept tail
-		// Reading ends with the script, or at the deadline below.
-		_, _ = io.Copy(&kept, pipes.outRead)
-		outputRead <- &kept
+		var output lastBytes
+		// Reading ends when the script ends, or at the deadline below.
+		_, _ = io.Copy(&output, pipes.outputRead)
+		outputDone <- &output
 	}()
 	err = waitFor(ctx, cmd)
 	// A process that the script left in the background may hold its output open.
-	_ = pipes.outRead.SetReadDeadline(time.Now().Add(outputDelay))
-	kept := <-outputRead
-	return scriptResult{kept.bytes, kept.total, err}
+	_ = pipes.outputRead.SetReadDeadline(time.Now().Add(outputDelay))
+	output := <-outputDone
+	return scriptResult{output.bytes, output.total, err}
 }
 
 // waitFor waits for the command's end. If ctx ends first, it ends the command's process group.
@@ -144,11 +144,11 @@ func waitFor(ctx context.Context, cmd *exec.Cmd) error {
 		return err
 	case <-ctx.Done():
 	}
-	group := -cmd.Process.Pid
-	_ = syscall.Kill(group, syscall.SIGTERM)
+	processGroup := -cmd.Process.Pid
+	_ = syscall.Kill(processGroup, syscall.SIGTERM)
 	hasEnded := endsWithin(ended, killDelay)
 	// This kills the processes of the group that ignored SIGTERM.
-	_ = syscall.Kill(group, syscall.SIGKILL)
+	_ = syscall.Kill(processGroup, syscall.SIGKILL)
 	if !hasEnded {
 		endsWithin(ended, killDelay)
 	}
@@ -158,43 +158,44 @@ func waitFor(ctx context.Context, cmd *exec.Cmd) error {
 	return ErrCutOff
 }
 
-// endsWithin waits for the end for at most timeout, and reports whether it ended.
+// endsWithin waits at most timeout for the end, and reports whether the end was reached.
 func endsWithin(ended <-chan error, timeout time.Duration) bool {
-	late := time.NewTimer(timeout)
-	defer late.Stop()
+	timer := time.NewTimer(timeout)
+	defer timer.Stop()
 	select {
 	case <-ended:
 		return true
-	case <-late.C:
+	case <-timer.C:
 		return false
 	}
 }
 
-// pipes are a script's input and output. Deadlines apply to our ends.
+// pipes are the pipes for a script's input and output. Only the agent's ends have deadlines.
 type pipes struct {
-	inRead, inWrite, outRead, outWrite *os.File
+	stdinRead, stdinWrite, outputRead, outputWrite *os.File
 }
 
+// openPipes makes the pipes of a command, and connects the command to them.
 func openPipes(cmd *exec.Cmd) (*pipes, error) {
 	p := &pipes{}
 	var err error
-	if p.inRead, p.inWrite, err = os.Pipe(); err != nil {
+	if p.stdinRead, p.stdinWrite, err = os.Pipe(); err != nil {
 		return nil, err
 	}
-	if p.outRead, p.outWrite, err = os.Pipe(); err != nil {
-		p.inRead.Close()
-		p.inWrite.Close()
+	if p.outputRead, p.outputWrite, err = os.Pipe(); err != nil {
+		p.stdinRead.Close()
+		p.stdinWrite.Close()
 		return nil, err
 	}
-	cmd.Stdin, cmd.Stdout, cmd.Stderr = p.inRead, p.outWrite, p.outWrite
+	cmd.Stdin, cmd.Stdout, cmd.Stderr = p.stdinRead, p.outputWrite, p.outputWrite
 	return p, nil
 }
 
-// pipeCapacity is how many bytes a pipe holds at least before anybody reads them.
+// pipeCapacity is a number of bytes that every pipe can hold before anybody reads them.
 const pipeCapacity = 4096
 
-// writeFirst writes an input that fits into the pipe, before the script starts. So the script has its whole input even
-// if the agent is killed then. It reports whether the input fits.
+// writeFirst writes the input into the pipe before the script starts, if it fits. Then the script has its whole input
+// even if the agent is killed. writeFirst reports whether the input fits.
 func (p *pipes) writeFirst(stdin []byte) bool {
 	if len(stdin) > pipeCapacity {
 		return false
@@ -203,19 +204,20 @@ func (p *pipes) writeFirst(stdin []byte) bool {
 	return true
 }
 
-// writeInput writes the input. If the script doesn't read it, close ends the write.
+// writeInput writes the input. If the script doesn't read it, the write ends when close closes the pipe.
 func (p *pipes) writeInput(stdin []byte) {
-	_, _ = p.inWrite.Write(stdin)
-	p.inWrite.Close()
+	_, _ = p.stdinWrite.Write(stdin)
+	p.stdinWrite.Close()
 }
 
-func (p *pipes) closeChild() {
-	p.inRead.Close()
-	p.outWrite.Close()
+// closeChildEnds closes the ends of the pipes that only the script uses.
+func (p *pipes) closeChildEnds() {
+	p.stdinRead.Close()
+	p.outputWrite.Close()
 }
 
 func (p *pipes) close() {
-	for _, file := range []*os.File{p.inRead, p.inWrite, p.outRead, p.outWrite} {
+	for _, file := range []*os.File{p.stdinRead, p.stdinWrite, p.outputRead, p.outputWrite} {
 		file.Close()
 	}
 }

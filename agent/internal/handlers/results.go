@@ -14,40 +14,41 @@ import (
 // Result is how the run of a handler ended.
 type Result int
 
-// The results. Never run counts a handler whose event was handed out, although the handler was not started.
+// The results. NeverRun counts a handler that was not started although its event was handed out.
 const (
 	OK Result = iota
 	Failed
 	TimedOut
 	CutOff
 	NeverRun
-	results
+	resultCount
 )
 
-var resultNames = [results]string{"ok", "failed", "timed_out", "cut_off", "never_run"}
+var resultNames = [resultCount]string{"ok", "failed", "timed_out", "cut_off", "never_run"}
 
 func (r Result) String() string { return resultNames[r] }
 
-// counts counts the results of all handlers.
-type counts [results]atomic.Int64
+// counts has the number of runs with each result, for all handlers together.
+type counts [resultCount]atomic.Int64
 
-// resultsKey is the metric of the results of each handler.
+// resultsKey is the name of the metric that counts the results of each handler.
 var resultsKey = []string{"agent", "handler", "results"}
 
+// labelsOf returns the labels of the metric that counts this result of a script.
 func labelsOf(script Script, result Result) []metrics.Label {
 	return []metrics.Label{{Name: "handler", Value: script.Name}, {Name: "result", Value: result.String()}}
 }
 
-// count counts a result, in total and for the script.
-func (c *counts) count(script Script, result Result) {
+// countResult counts a result, in total and for the script.
+func (c *counts) countResult(script Script, result Result) {
 	c[result].Add(1)
 	metrics.IncrCounterWithLabels(resultsKey, 1, labelsOf(script, result))
 }
 
-// announce reports each result of the scripts as 0, so that a monitor sees the first one as an increase.
-func announce(scripts []Script) {
+// announceZeros reports each result of the scripts as 0, so that a monitor sees the first one as an increase.
+func announceZeros(scripts []Script) {
 	for _, script := range scripts {
-		for result := OK; result < results; result++ {
+		for result := OK; result < resultCount; result++ {
 			metrics.IncrCounterWithLabels(resultsKey, 0, labelsOf(script, result))
 		}
 	}
@@ -56,7 +57,7 @@ func announce(scripts []Script) {
 // Results returns how many runs of handlers had each result.
 func (r *Runner) Results() map[Result]int64 {
 	totals := map[Result]int64{}
-	for result := OK; result < results; result++ {
+	for result := OK; result < resultCount; result++ {
 		totals[result] = r.counts[result].Load()
 	}
 	return totals
@@ -65,8 +66,8 @@ func (r *Runner) Results() map[Result]int64 {
 // maxScriptName is the maximum length of a handler's name in bytes.
 const maxScriptName = 64
 
-// nameOfCommand returns a short name for a command: its program, without the folder. Assignments of variables, exec and
-// sudo are skipped.
+// nameOfCommand returns a short name for a command: the name of its program, without the folder. It skips assignments
+// of variables, exec and sudo.
 func nameOfCommand(command string) string {
 	name := ""
 	for _, word := range strings.Fields(command) {
@@ -107,7 +108,8 @@ const (
 	loggedMembers = 8
 )
 
-// quoted returns bytes in quotes. Of more than max, it returns the first ones, or the last ones if isEnd is true.
+// quoted returns data in quotes. If data is longer than max bytes, quoted returns only its first max bytes, or the last
+// ones if isEnd is true.
 func quoted(data []byte, max int, isEnd bool) string {
 	switch {
 	case len(data) <= max:

@@ -25,12 +25,12 @@ func countsOf(r *Runner) map[string]int64 {
 	return counted
 }
 
-// Each run is counted by its result, and so is an event that no handler ran for.
+// Each run is counted by its result. An event for which no handler ran is counted too.
 func TestResultsAreCounted(t *testing.T) {
 	t.Parallel()
 	r, output := newRunner(t, 10*time.Second, "user:ok=true", "user:fails=exit 3", "user:hangs=sleep 100", "user:missing=/nowhere/script")
 	for _, name := range []string{"ok", "fails", "hangs", "missing", "none"} {
-		r.Add(user(name, "p"))
+		r.Add(userEventOf(name, "p"))
 	}
 	r.Close(time.Minute)
 	if counted := countsOf(r); !reflect.DeepEqual(counted, map[string]int64{"ok": 1, "failed": 2, "timed_out": 1}) {
@@ -38,17 +38,18 @@ func TestResultsAreCounted(t *testing.T) {
 	}
 }
 
-// At the end, what runs is cut off, and what waits never runs. The log has each of them, with its payload.
+// When the agent ends, the running handler is cut off, and the waiting handlers never run. The log reports this with
+// the payloads of the events.
 func TestResultsAtTheEnd(t *testing.T) {
 	t.Parallel()
 	begun := filepath.Join(t.TempDir(), "begun")
 	r, output := newRunner(t, 0, "echo > "+begun+"; sleep 100", "user=true")
 	for i := 0; i < loggedDropped+3; i++ {
-		r.Add(user("deploy", fmt.Sprint("v", i)))
+		r.Add(userEventOf("deploy", fmt.Sprint("v", i)))
 	}
 	eventuallyExists(t, begun)
 	r.Close(0)
-	// Each of the events that waited has two handlers, and so has the first one.
+	// Each event has two handlers. For the first event, one handler was cut off, and the other never ran.
 	if counted := countsOf(r); !reflect.DeepEqual(counted, map[string]int64{"cut_off": 1, "never_run": 2*(loggedDropped+2) + 1}) {
 		t.Error(counted)
 	}
@@ -61,7 +62,7 @@ func TestResultsAtTheEnd(t *testing.T) {
 			t.Errorf("without %q: %s", says, output)
 		}
 	}
-	r.Add(user("late", ""))
+	r.Add(userEventOf("late", ""))
 	if late := countsOf(r)["never_run"]; late != 2*(loggedDropped+3)+1 {
 		t.Error(late)
 	}
@@ -74,7 +75,7 @@ func TestDroppedQueriesAreCounted(t *testing.T) {
 	for i := 0; i < MaxQueries+5; i++ {
 		r.Add(&serf.Query{Name: "load", LTime: 9, Payload: []byte("x")})
 	}
-	// One of them runs, unless it didn't start before the others were added.
+	// One query runs. If it starts late, five queries are dropped instead of four.
 	if dropped := countsOf(r)["never_run"]; dropped != 4 && dropped != 5 {
 		t.Error(dropped)
 	}
@@ -84,7 +85,7 @@ func TestDroppedQueriesAreCounted(t *testing.T) {
 	r.Close(0)
 }
 
-// The line of a failure has the payload, the time, how long the handler ran and what it wrote last.
+// The log line of a failure has the event's payload and time, how long the handler ran, and what it wrote last.
 func TestFailureIsDescribed(t *testing.T) {
 	t.Parallel()
 	r, output := newRunner(t, 0, "user=head -c 2000 /dev/zero | tr '\\0' x; echo cannot reach db >&2; exit 7", "member-failed=exit 1")
@@ -123,7 +124,7 @@ func TestNamesOfScripts(t *testing.T) {
 	}
 }
 
-// The metric of a handler's results is there, with a zero, before it has run.
+// Before a handler has run, the metric of its results already exists, with the value 0.
 func TestResultsAreAnnounced(t *testing.T) {
 	sink := metrics.NewInmemSink(time.Hour, 2*time.Hour)
 	conf := metrics.DefaultConfig("test")

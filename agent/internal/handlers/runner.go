@@ -14,24 +14,24 @@ import (
 	"kitchenrue.example/serf"
 )
 
-// MaxEvents is how many events wait for their handlers, and MaxQueries how many queries.
+// MaxEvents is the maximum number of events that wait for their handlers, and MaxQueries the maximum number of queries.
 const (
 	MaxEvents  = 4096
 	MaxQueries = 256
 )
 
-// slowHandler is the run time above which a handler is logged.
+// slowHandler is the run time above which the log reports a handler.
 const slowHandler = time.Second
 
 // Runner runs scripts. Those for user events and member events run one after another, in the order of the events. Those
 // for queries also run one after another, at the same time as the others.
 type Runner struct {
-	log     *log.Logger
-	timeout time.Duration
-	events  *queue
-	queries *queue
-	stop    context.CancelFunc
-	running sync.WaitGroup
+	log        *log.Logger
+	timeout    time.Duration
+	events     *queue
+	queries    *queue
+	cancel     context.CancelFunc
+	goroutines sync.WaitGroup
 
 	counts counts
 
@@ -39,7 +39,7 @@ type Runner struct {
 	// stillRunning those of them whose handlers were still running.
 	tracker                  Tracker
 	unfinished, stillRunning atomic.Int64
-	// isClosing: tracked events that wait stay open.
+	// isClosing is true when the agent is shutting down. Tracked events that still wait then stay open.
 	isClosing atomic.Bool
 
 	// respond answers a query. Tests replace it.
@@ -50,18 +50,19 @@ type Runner struct {
 	scripts []Script
 }
 
-// New starts a runner. If timeout is 0, scripts have no limit. self returns what scripts learn about this node.
+// New starts a runner. If timeout is 0, scripts may run without a limit. self returns what scripts learn about this
+// node.
 func New(logger *log.Logger, timeout time.Duration, scripts []Script, self func() Self) *Runner {
-	ctx, stop := context.WithCancel(context.Background())
+	ctx, cancel := context.WithCancel(context.Background())
 	r := &Runner{
-		log: logger, timeout: timeout, scripts: scripts, self: self, stop: stop,
+		log: logger, timeout: timeout, scripts: scripts, self: self, cancel: cancel,
 		events: newQueue(MaxEvents), queries: newQueue(MaxQueries), respond: (*serf.Query).Respond,
 	}
-	announce(scripts)
+	announceZeros(scripts)
 	for _, q := range []*queue{r.events, r.queries} {
-		r.running.Add(1)
+		r.goroutines.Add(1)
 		go func(q *queue) {
-			defer r.running.Done()
+			defer r.goroutines.Done()
 			for e := q.next(); e != nil; e = q.next() {
 				r.handle(ctx, e)
 			}
@@ -72,7 +73,7 @@ func New(logger *log.Logger, timeout time.Duration, scripts []Script, self func(
 
 // SetScripts changes the scripts from the next event on.
 func (r *Runner) SetScripts(scripts []Script) {
-	announce(scripts)
+	announceZeros(scripts)
 	r.mu.Lock()
 	defer r.mu.Unlock()
 	r.scripts = scripts
@@ -88,8 +89,8 @@ func (r *Runner) Scripts() []Script {
 // HasRoom reports whether the runner accepts another event without exceeding MaxEvents.
 func (r *Runner) HasRoom() bool { return r.events.hasRoom() }
 
-// Room receives a value when there may be room again.
-func (r *Runner) Room() <-chan struct{} { return r.events.freed }
+// RoomFreed returns a channel that receives a value when there may be room again.
+func (r *Runner) RoomFreed() <-chan struct{} { return r.events.roomFreed }
 
 // Waiting returns how many events and how many queries wait for their handlers.
 func (r *Runner) Waiting() (events, queries int) { return r.events.size(), r.queries.size() }
@@ -99,7 +100,7 @@ func (r *Runner) Waiting() (events, queries int) { return r.events.size(), r.que
 func (r *Runner) Add(e serf.Event) {
 	if !r.HasScriptFor(e) {
 		if r.isTracked(e) {
-			r.done(e.(serf.UserEvent), nil)
+			r.reportDone(e.(serf.UserEvent), nil)
 		}
 		return
 	}
@@ -117,7 +118,7 @@ func (r *Runner) Add(e serf.Event) {
 func (r *Runner) countNeverRun(e serf.Event) {
 	for _, script := range r.Scripts() {
 		if script.Filters.Matches(e) {
-			r.counts.count(script, NeverRun)
+			r.counts.countResult(script, NeverRun)
 		}
 	}
 }
@@ -132,32 +133,32 @@ func (r *Runner) HasScriptFor(e serf.Event) bool {
 	return false
 }
 
-// Close lets waiting scripts run for the time of grace. After that it ends the script that runs, and drops the events
-// that still wait. User events that are tracked don't wait for the grace: only the one whose script runs does, and the
-// others stay open.
+// Close lets waiting scripts run for the time of grace. After that it ends the script that is running, and drops the
+// events that still wait. For tracked user events, Close waits only for the script that is running. The other tracked
+// events stay open for the next life.
 func (r *Runner) Close(grace time.Duration) {
 	r.leaveOpen()
 	r.events.close()
 	r.queries.close()
 	done := make(chan struct{})
 	go func() {
-		r.running.Wait()
+		r.goroutines.Wait()
 		close(done)
 	}()
-	late := time.NewTimer(grace)
-	defer late.Stop()
+	graceTimer := time.NewTimer(grace)
+	defer graceTimer.Stop()
 	select {
 	case <-done:
-		r.stop()
+		r.cancel()
 		return
-	case <-late.C:
+	case <-graceTimer.C:
 	}
-	r.logDropped(append(r.events.drop(), r.queries.drop()...))
-	r.stop()
+	r.logDropped(append(r.events.removeAll(), r.queries.removeAll()...))
+	r.cancel()
 	<-done
 }
 
-// loggedDropped is how many of the events that were dropped at the end have a line each.
+// loggedDropped is the maximum number of events dropped at the end that are logged in a separate line each.
 const loggedDropped = 20
 
 // logDropped logs and counts events that were dropped at the end.
@@ -176,6 +177,7 @@ func (r *Runner) logDropped(events []serf.Event) {
 	}
 }
 
+// handle runs the scripts for an event. If the event is tracked, it also records their beginning and their ends.
 func (r *Runner) handle(ctx context.Context, e serf.Event) {
 	if r.isTracked(e) {
 		r.handleTracked(ctx, e)
@@ -184,13 +186,14 @@ func (r *Runner) handle(ctx context.Context, e serf.Event) {
 	r.runAll(ctx, r.runsFor(e))
 }
 
-// runAll runs scripts. It returns how they ended, and whether the agent's end cut none of them off.
+// runAll runs scripts. It returns how they ended. isWhole is false if the agent's end cut off one of them or kept one
+// from running.
 func (r *Runner) runAll(ctx context.Context, runs []scriptRun) (ended []serf.HandlerRun, isWhole bool) {
 	isWhole = true
 	for _, run := range runs {
 		if ctx.Err() != nil {
 			isWhole = false
-			r.counts.count(run.script, NeverRun)
+			r.counts.countResult(run.script, NeverRun)
 			r.log.Printf("[WARN] agent: the handler %q of %s was not run, since the agent is shutting down", run.script.Command, describe(run.event))
 			continue
 		}
@@ -210,10 +213,10 @@ func (r *Runner) run(ctx context.Context, run scriptRun) scriptResult {
 		defer cancel()
 	}
 	began := time.Now()
-	result := runScript(ctx, script.Command, environment(r.self(), e), input(e), func(pid int) { r.recordProcess(run, pid) })
+	result := runScript(ctx, script.Command, environment(r.self(), e), standardInput(e), func(pid int) { r.recordProcess(run, pid) })
 	metrics.MeasureSince([]string{"agent", "invoke", script.Command}, began)
 	metrics.MeasureSinceWithLabels([]string{"agent", "handler", "duration"}, began, []metrics.Label{{Name: "handler", Value: script.Name}})
-	r.counts.count(script, result.kind())
+	r.counts.countResult(script, result.kind())
 	took := time.Since(began).Round(time.Millisecond)
 	if took > slowHandler && result.err == nil {
 		r.log.Printf("[WARN] agent: the handler %q of %s took %v", script.Command, e, took)
@@ -234,6 +237,7 @@ func (r *Runner) run(ctx context.Context, run scriptRun) scriptResult {
 	return result
 }
 
+// answer responds to a query with the output of its script.
 func (r *Runner) answer(query *serf.Query, result scriptResult) error {
 	if result.written > MaxOutput {
 		return fmt.Errorf("the output of %d bytes is too long for a response", result.written)
@@ -241,6 +245,7 @@ func (r *Runner) answer(query *serf.Query, result scriptResult) error {
 	return r.respond(query, result.output)
 }
 
+// exitReason describes the exit status of a script that ended by itself, and returns any other error unchanged.
 func exitReason(err error) error {
 	if exit, ok := err.(*exec.ExitError); ok {
 		return fmt.Errorf("it ended with %s", exit.ProcessState)
@@ -255,12 +260,12 @@ type queue struct {
 	events   []serf.Event
 	max      int
 	isClosed bool
-	// freed receives a value when an event was removed.
-	freed chan struct{}
+	// roomFreed receives a value when an event was removed.
+	roomFreed chan struct{}
 }
 
 func newQueue(max int) *queue {
-	q := &queue{max: max, freed: make(chan struct{}, 1)}
+	q := &queue{max: max, roomFreed: make(chan struct{}, 1)}
 	q.changed = sync.NewCond(&q.mu)
 	return q
 }
@@ -299,7 +304,7 @@ func (q *queue) next() serf.Event {
 	q.events[0] = nil
 	q.events = q.events[1:]
 	select {
-	case q.freed <- struct{}{}:
+	case q.roomFreed <- struct{}{}:
 	default:
 	}
 	return first
@@ -328,8 +333,8 @@ func (q *queue) close() {
 	q.changed.Broadcast()
 }
 
-// drop removes all events and returns them.
-func (q *queue) drop() []serf.Event {
+// removeAll removes all events and returns them.
+func (q *queue) removeAll() []serf.Event {
 	q.mu.Lock()
 	defer q.mu.Unlock()
 	dropped := q.events

@@ -30,7 +30,7 @@ func eventuallyExists(t *testing.T, path string) {
 	testkit.Eventually(t, path+" exists", func() bool { _, err := os.Stat(path); return err == nil })
 }
 
-func user(name, payload string) serf.Event {
+func userEventOf(name, payload string) serf.Event {
 	return serf.UserEvent{Name: name, Payload: []byte(payload)}
 }
 
@@ -40,8 +40,8 @@ func TestHandlersRunInOrder(t *testing.T) {
 	r, _ := newRunner(t, 0, "user:deploy=(cat; sleep 0.0$((RANDOM % 5)) 2>/dev/null) >> "+file, "query=echo never >> "+file)
 	var want string
 	for i := 0; i < 20; i++ {
-		r.Add(user("deploy", fmt.Sprint(i)))
-		r.Add(user("other", "x"))
+		r.Add(userEventOf("deploy", fmt.Sprint(i)))
+		r.Add(userEventOf("other", "x"))
 		want += fmt.Sprintln(i)
 	}
 	r.Close(time.Minute)
@@ -83,7 +83,7 @@ func TestScriptsThatDoNotEnd(t *testing.T) {
 			t.Parallel()
 			began := time.Now()
 			r, output := newRunner(t, 300*time.Millisecond, "user:deploy="+script, "user:next=echo second")
-			r.Add(user("deploy", strings.Repeat("x", 1<<20)))
+			r.Add(userEventOf("deploy", strings.Repeat("x", 1<<20)))
 			testkit.Eventually(t, "it is ended", func() bool { return r.Results()[TimedOut] == 1 })
 			if duration := time.Since(began); duration > 80*time.Second {
 				t.Errorf("it ran for %v", duration)
@@ -93,7 +93,7 @@ func TestScriptsThatDoNotEnd(t *testing.T) {
 			}
 			// On a busy machine, the next handler may exceed its limit too.
 			testkit.Eventually(t, "the next handler runs", func() bool {
-				r.Add(user("next", ""))
+				r.Add(userEventOf("next", ""))
 				testkit.Eventually(t, "it has run", func() bool { waiting, _ := r.Waiting(); return waiting == 0 })
 				return output.Has("output: second")
 			})
@@ -102,7 +102,7 @@ func TestScriptsThatDoNotEnd(t *testing.T) {
 	}
 }
 
-// A short input is in the pipe before the script starts, so a script whose agent is killed then has all of it.
+// A short input is in the pipe before the script starts. So the script has all of it even if the agent is killed then.
 func TestShortInputIsWrittenFirst(t *testing.T) {
 	for length, isFirst := range map[int]bool{0: true, 2: true, pipeCapacity: true, pipeCapacity + 1: false} {
 		p, err := openPipes(exec.Command("true"))
@@ -112,7 +112,7 @@ func TestShortInputIsWrittenFirst(t *testing.T) {
 			t.Error(length)
 		}
 		if isFirst {
-			if found, err := io.ReadAll(p.inRead); err != nil || len(found) != length {
+			if found, err := io.ReadAll(p.stdinRead); err != nil || len(found) != length {
 				t.Error(length, len(found), err)
 			}
 		}
@@ -124,7 +124,7 @@ func TestWholeGroupIsEnded(t *testing.T) {
 	t.Parallel()
 	file := filepath.Join(t.TempDir(), "file")
 	r, _ := newRunner(t, 5*time.Second, "sleep 100 & echo $! $$ > "+file+"; trap '' TERM; sleep 100; sleep 100")
-	r.Add(user("deploy", ""))
+	r.Add(userEventOf("deploy", ""))
 	r.Close(time.Minute)
 	text, err := os.ReadFile(file)
 	testkit.Must(t, err)
@@ -145,7 +145,7 @@ func TestBackgroundProcesses(t *testing.T) {
 	t.Parallel()
 	began := time.Now()
 	r, output := newRunner(t, 0, "sleep 60 & echo done")
-	r.Add(user("deploy", ""))
+	r.Add(userEventOf("deploy", ""))
 	r.Close(time.Minute)
 	if duration := time.Since(began); duration > 50*time.Second || !strings.Contains(output.String(), "output: done") {
 		t.Errorf("%v %s", duration, output)
@@ -157,7 +157,7 @@ func TestCloseDoesNotWait(t *testing.T) {
 	file := filepath.Join(t.TempDir(), "file")
 	r, output := newRunner(t, 0, "echo > "+file+"; sleep 100")
 	for i := 0; i < 3; i++ {
-		r.Add(user("deploy", ""))
+		r.Add(userEventOf("deploy", ""))
 	}
 	eventuallyExists(t, file)
 	began := time.Now()
@@ -168,14 +168,14 @@ func TestCloseDoesNotWait(t *testing.T) {
 	if !strings.Contains(output.String(), "2 events will not reach their handlers") || !strings.Contains(output.String(), "it was ended") {
 		t.Error(output)
 	}
-	r.Add(user("late", ""))
+	r.Add(userEventOf("late", ""))
 }
 
 func TestBounds(t *testing.T) {
 	t.Parallel()
 	r, output := newRunner(t, 0, "sleep 100")
 	for i := 0; i < MaxEvents+1; i++ {
-		r.Add(user("deploy", ""))
+		r.Add(userEventOf("deploy", ""))
 	}
 	for i := 0; i < 2*MaxQueries; i++ {
 		r.Add(&serf.Query{Name: "load"})
@@ -196,20 +196,20 @@ func TestSetScripts(t *testing.T) {
 	scripts, err := ParseScripts([]string{"echo two"})
 	testkit.Must(t, err)
 	r.SetScripts(scripts)
-	r.Add(user("deploy", ""))
+	r.Add(userEventOf("deploy", ""))
 	r.Close(time.Minute)
 	if text := output.String(); strings.Contains(text, "one") || !strings.Contains(text, "two") {
 		t.Error(text)
 	}
 }
 
-func TestTail(t *testing.T) {
-	var kept tail
+func TestLastBytes(t *testing.T) {
+	var kept lastBytes
 	var all []byte
 	for i := 0; i < 300; i++ {
-		piece := bytes.Repeat([]byte{byte(i)}, i*7)
-		all = append(all, piece...)
-		if _, err := kept.Write(piece); err != nil {
+		chunk := bytes.Repeat([]byte{byte(i)}, i*7)
+		all = append(all, chunk...)
+		if _, err := kept.Write(chunk); err != nil {
 			t.Fatal(err)
 		}
 		want := all

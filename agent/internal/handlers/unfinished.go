@@ -8,20 +8,22 @@ import (
 	"kitchenrue.example/serf"
 )
 
-// Tracker keeps on the disk which user events are open, over all lives of the agent: those whose handlers have not ended. A *serf.Serf is one.
+// Tracker records on the disk which user events are open, across all lives of the agent. An event is open until its
+// handlers have ended. A *serf.Serf is a Tracker.
 type Tracker interface {
-	// Begin says that the handlers of an event begin. If it returns an error, they must not run. BeginAgain is Begin for an event whose
-	// handlers an earlier life began.
+	// Begin records that the handlers of an event begin. If it returns an error, they must not run. BeginAgain does the
+	// same for an event whose handlers already began in an earlier life.
 	Begin(serf.UserEvent) error
 	BeginAgain(serf.UserEvent) error
-	// RecordProcess says which process runs a handler of an event that has begun.
+	// RecordProcess records which process runs a handler of an event that has begun.
 	RecordProcess(serf.UserEvent, serf.HandlerProcess) error
-	// DoneWith says that the handlers of an event have ended, and how, or that it has none.
+	// DoneWith records that the handlers of an event have ended, and how each of them ended. It also records that an
+	// event without handlers is done.
 	DoneWith(serf.UserEvent, []serf.HandlerRun) error
 }
 
-// Unfinished is a user event whose handlers began in an earlier life of the agent, and were cut off when that life ended. process is the last
-// of them, or nil if none is known.
+// Unfinished is a user event whose handlers began in an earlier life of the agent and were cut off when that life
+// ended. process is the process of the last of these handlers, or nil if it isn't known.
 type Unfinished struct {
 	serf.UserEvent
 	process *serf.HandlerProcess
@@ -29,17 +31,17 @@ type Unfinished struct {
 
 func (u Unfinished) String() string { return "unfinished: " + u.Name }
 
-// Rerun is a user event whose handlers run again after they were cut off.
+// Rerun is a user event for which handlers run again after they were cut off.
 type Rerun struct{ serf.UserEvent }
 
-// The kinds of filters that only handlers have. A handler for unfinishedKind runs for events whose handlers were cut off. A handler for
-// rerunKind is one for user events that runs again if it was cut off.
+// The kinds of filters that only handlers can have. A handler with the filter unfinished runs for events whose handlers
+// were cut off. A handler with the filter rerun runs for user events, and runs again if it was cut off.
 const (
 	unfinishedKind = "unfinished"
 	rerunKind      = "rerun"
 )
 
-// userEvent returns the user event that an event is about. ok is false for other events.
+// userEvent returns the user event in e, even if e is an Unfinished or a Rerun. ok is false for all other events.
 func userEvent(e serf.Event) (event serf.UserEvent, ok bool) {
 	switch e := e.(type) {
 	case serf.UserEvent:
@@ -52,7 +54,7 @@ func userEvent(e serf.Event) (event serf.UserEvent, ok bool) {
 	return serf.UserEvent{}, false
 }
 
-// kindOf returns what handlers learn as the kind of an event.
+// kindOf returns the kind of an event as its handlers see it.
 func kindOf(e serf.Event) string {
 	if _, isUnfinished := e.(Unfinished); isUnfinished {
 		return unfinishedKind
@@ -79,7 +81,8 @@ type scriptRun struct {
 	event  serf.Event
 }
 
-// name returns the name of the handler in the lines of the snapshot, which says why it runs if that isn't the event itself.
+// name returns the handler's name for the lines of the snapshot. If the handler runs because of an event that was cut
+// off, the name begins with unfinished or rerun.
 func (s scriptRun) name() string {
 	switch s.event.(type) {
 	case Unfinished:
@@ -90,8 +93,8 @@ func (s scriptRun) name() string {
 	return s.script.Name
 }
 
-// runsFor returns the scripts that run for an event. For one whose handlers were cut off these are the scripts that handle that, and then
-// those that run again.
+// runsFor returns the scripts that run for an event. If the event's handlers were cut off, these are first the scripts
+// with the filter unfinished, and then those with the filter rerun.
 func (r *Runner) runsFor(e serf.Event) (runs []scriptRun) {
 	forms := []serf.Event{e}
 	if cutOff, isUnfinished := e.(Unfinished); isUnfinished {
@@ -107,18 +110,18 @@ func (r *Runner) runsFor(e serf.Event) (runs []scriptRun) {
 	return runs
 }
 
-// Track makes the runner say to a tracker which user events begin and end. Call it before the first Add.
+// Track makes the runner report to a tracker which user events begin and end. Call it before the first Add.
 func (r *Runner) Track(tracker Tracker) { r.tracker = tracker }
 
-// isTracked reports whether the end of the event's handlers is tracked.
+// isTracked reports whether the tracker records the end of the event's handlers.
 func (r *Runner) isTracked(e serf.Event) bool {
 	_, isUser := userEvent(e)
 	return isUser && r.tracker != nil
 }
 
-// Resume queues what earlier lives of the agent left open, in the order in which it was handed out. Handlers that never began run now. Those
-// that were cut off are logged and counted; if a script handles that, or one of them may run again, this happens once. Call it before the
-// first Add.
+// Resume queues the events that earlier lives of the agent left open, in the order in which they were handed out. If an
+// event's handlers never began, they run now. If they were cut off, Resume logs and counts the event. The scripts with
+// the filters unfinished and rerun then run for it, once in all lives. Call Resume before the first Add.
 func (r *Runner) Resume(events []serf.UnfinishedEvent) {
 	waiting := 0
 	var earlier earlierHandlers
@@ -143,42 +146,43 @@ func (r *Runner) resumeCutOff(e serf.UnfinishedEvent) {
 	r.unfinished.Add(1)
 	for _, script := range r.Scripts() {
 		if script.Filters.Matches(e.UserEvent) {
-			r.counts.count(script, CutOff)
+			r.counts.countResult(script, CutOff)
 		}
 	}
 	isRunning := e.Process != nil && e.Process.IsRunning()
 	event := Unfinished{e.UserEvent, e.Process}
 	runs := r.runsFor(event)
-	then, now := "it isn't run again", "now"
+	action, when := "it isn't run again", "now"
 	if isRunning {
 		r.stillRunning.Add(1)
-		then = fmt.Sprintf("its process %d is still running, and it isn't run again", e.Process.PID)
-		now = fmt.Sprintf("when its process %d, which is still running, has ended", e.Process.PID)
+		action = fmt.Sprintf("its process %d is still running, and it isn't run again", e.Process.PID)
+		when = fmt.Sprintf("when its process %d, which is still running, has ended", e.Process.PID)
 	}
 	switch {
 	case e.HasBegunAgain:
-		then, runs = then+", since that was cut off too", nil
+		action, runs = action+", since that was cut off too", nil
 	case len(runs) > 0:
-		then = fmt.Sprintf("this runs %s: %s", now, commandsOf(runs))
+		action = fmt.Sprintf("this runs %s: %s", when, commandsOf(runs))
 	}
-	r.log.Printf("[WARN] agent: a handler of %s began, and the agent ended before the handler did; %s", describe(e.UserEvent), then)
+	r.log.Printf("[WARN] agent: a handler of %s began, and the agent ended before the handler did; %s", describe(e.UserEvent), action)
 	if len(runs) > 0 {
 		r.events.add(event)
 		return
 	}
-	r.done(e.UserEvent, cutOffRuns(e, isRunning))
+	r.reportDone(e.UserEvent, cutOffRuns(e, isRunning))
 }
 
-// cutOffRuns returns what is known of the handlers of an event that was cut off: one run for each time that it began.
+// cutOffRuns returns what is known of the handlers of an event that was cut off. The result has one run for each time
+// that they began.
 func cutOffRuns(e serf.UnfinishedEvent, isRunning bool) (runs []serf.HandlerRun) {
 	if e.HasBegunAgain {
 		runs = append(runs, serf.HandlerRun{Status: serf.RanCutOff})
 	}
-	return append(runs, lastRun(e.Process, isRunning))
+	return append(runs, cutOffRun(e.Process, isRunning))
 }
 
-// lastRun returns what is known of a handler that was cut off.
-func lastRun(process *serf.HandlerProcess, isRunning bool) serf.HandlerRun {
+// cutOffRun returns what is known of the last handler of an event that was cut off.
+func cutOffRun(process *serf.HandlerProcess, isRunning bool) serf.HandlerRun {
 	run := serf.HandlerRun{Status: serf.RanCutOff}
 	if process != nil {
 		run.Handler = process.Handler
@@ -200,30 +204,32 @@ func commandsOf(runs []scriptRun) (list string) {
 	return list
 }
 
-// Unfinished returns how many events had handlers that were cut off in an earlier life of the agent.
+// Unfinished returns the number of events whose handlers were cut off in an earlier life of the agent.
 func (r *Runner) Unfinished() int64 { return r.unfinished.Load() }
 
-// StillRunning returns how many of them had handlers that were still running at the start.
+// StillRunning returns how many of the events that Unfinished counts had a handler that was still running when the
+// agent started.
 func (r *Runner) StillRunning() int64 { return r.stillRunning.Load() }
 
-// handleTracked runs the scripts of a user event between the lines that say so. If the agent is shutting down, the event stays open.
+// handleTracked runs the scripts of a user event. It records their beginning first, and their ends afterwards. If the
+// agent is shutting down, the event stays open.
 func (r *Runner) handleTracked(ctx context.Context, e serf.Event) {
 	event, _ := userEvent(e)
 	if r.isClosing.Load() {
 		return
 	}
-	var earlier []serf.HandlerRun
+	var earlierRuns []serf.HandlerRun
 	begin := r.tracker.Begin
 	if cutOff, isUnfinished := e.(Unfinished); isUnfinished {
 		begin = r.tracker.BeginAgain
 		switch r.awaitEarlier(ctx, cutOff) {
-		case agentEnds:
+		case agentIsEnding:
 			return
-		case earlierRuns:
-			r.done(event, []serf.HandlerRun{lastRun(cutOff.process, true)})
+		case earlierStillRuns:
+			r.reportDone(event, []serf.HandlerRun{cutOffRun(cutOff.process, true)})
 			return
 		}
-		earlier = []serf.HandlerRun{lastRun(cutOff.process, false)}
+		earlierRuns = []serf.HandlerRun{cutOffRun(cutOff.process, false)}
 	}
 	runs := r.runsFor(e)
 	if len(runs) > 0 {
@@ -235,11 +241,11 @@ func (r *Runner) handleTracked(ctx context.Context, e serf.Event) {
 		}
 	}
 	if ended, isWhole := r.runAll(ctx, runs); isWhole {
-		r.done(event, append(earlier, ended...))
+		r.reportDone(event, append(earlierRuns, ended...))
 	}
 }
 
-// recordProcess says to the tracker which process runs a handler.
+// recordProcess reports to the tracker which process runs a handler.
 func (r *Runner) recordProcess(run scriptRun, pid int) {
 	if !r.isTracked(run.event) {
 		return
@@ -254,14 +260,14 @@ func (r *Runner) recordProcess(run scriptRun, pid int) {
 	}
 }
 
-// done says to the tracker that an event is done.
-func (r *Runner) done(event serf.UserEvent, runs []serf.HandlerRun) {
+// reportDone reports to the tracker that an event is done.
+func (r *Runner) reportDone(event serf.UserEvent, runs []serf.HandlerRun) {
 	if err := r.tracker.DoneWith(event, runs); err != nil {
 		r.log.Printf("[WARN] agent: the end of the handlers of %s was not recorded: %v", event, err)
 	}
 }
 
-// leaveOpen removes the tracked events that wait from the queue, so that they run in the next life.
+// leaveOpen removes the tracked events that still wait from the queue, so that their handlers run in the next life.
 func (r *Runner) leaveOpen() {
 	if r.tracker == nil || r.isClosing.Swap(true) {
 		return

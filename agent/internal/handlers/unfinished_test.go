@@ -25,6 +25,7 @@ type fakeTracker struct {
 	err error
 }
 
+// call records a call of the tracker.
 func (f *fakeTracker) call(name string, e serf.UserEvent) {
 	f.mu.Lock()
 	defer f.mu.Unlock()
@@ -59,6 +60,7 @@ func (f *fakeTracker) DoneWith(e serf.UserEvent, runs []serf.HandlerRun) error {
 	return nil
 }
 
+// list returns the calls so far.
 func (f *fakeTracker) list() string {
 	f.mu.Lock()
 	defer f.mu.Unlock()
@@ -74,7 +76,7 @@ func trackedRunner(t *testing.T, timeout time.Duration, scripts ...string) (*Run
 	return r, tracker, output
 }
 
-// waitUntil waits until the tracker had these calls, or others.
+// waitUntil waits until the tracker has recorded exactly these calls, or calls that differ from them.
 func (f *fakeTracker) waitUntil(t *testing.T, calls string) {
 	t.Helper()
 	testkit.Eventually(t, calls, func() bool { return !strings.HasPrefix(calls, f.list()) || f.list() == calls })
@@ -83,16 +85,17 @@ func (f *fakeTracker) waitUntil(t *testing.T, calls string) {
 	}
 }
 
-// The scripts of an event run after Begin and before Done. An event without a script is done at once, also if its handler was removed while
-// it waited. One whose handler fails or takes too long is done too. Other events aren't tracked.
+// The scripts of an event run after Begin and before DoneWith. An event without a script is done at once, even if its
+// handler was removed while the event waited. An event whose handler fails or takes too long is done too. Events that
+// aren't user events aren't tracked.
 func TestHandlersAreTracked(t *testing.T) {
 	t.Parallel()
 	ran := filepath.Join(t.TempDir(), "ran")
 	r, tracker, _ := trackedRunner(t, 500*time.Millisecond, "user:deploy=cat >>"+ran, "user:deploy=false", "user:long=sleep 100", "query,member-join=true")
-	r.Add(user("none", "none"))
+	r.Add(userEventOf("none", "none"))
 	tracker.waitUntil(t, "done none")
-	r.Add(user("deploy", "a"))
-	r.Add(user("long", "b"))
+	r.Add(userEventOf("deploy", "a"))
+	r.Add(userEventOf("long", "b"))
 	r.Add(serf.MemberEvent{Type: serf.EventMemberJoin})
 	r.Add(&serf.Query{Name: "load"})
 	tracker.waitUntil(t, "done none, begin a, done a cat=0 false=1, begin b, done b sleep=timed-out")
@@ -111,7 +114,7 @@ func TestNoHandlerWithoutBegin(t *testing.T) {
 	for err, says := range map[error]string{serf.ErrAlreadyBegun: "no handler was run for user-event: deploy", serf.ErrEnded: ""} {
 		r, tracker, output := trackedRunner(t, 0, "user:deploy=echo ran")
 		tracker.err = err
-		r.Add(user("deploy", "a"))
+		r.Add(userEventOf("deploy", "a"))
 		tracker.waitUntil(t, "begin a")
 		r.Close(time.Minute)
 		if text := output.String(); strings.Contains(text, "ran\n") || !strings.Contains(text, says) || says == "" && text != "" || tracker.list() != "begin a" {
@@ -120,7 +123,8 @@ func TestNoHandlerWithoutBegin(t *testing.T) {
 	}
 }
 
-// An agent that ends leaves open what waits, and lets the handler that runs end. If that takes longer than the grace, its event stays open.
+// When the agent ends, waiting events stay open, and the running handler may end. If this handler takes longer than the
+// grace, its event stays open too.
 func TestCloseLeavesOpen(t *testing.T) {
 	t.Parallel()
 	for _, test := range []struct {
@@ -134,12 +138,12 @@ func TestCloseLeavesOpen(t *testing.T) {
 		started := filepath.Join(t.TempDir(), "started")
 		r, tracker, output := trackedRunner(t, 0, fmt.Sprintf(test.script, started), "member-join=echo joined")
 		for _, payload := range []string{"a", "b", "c"} {
-			r.Add(user("deploy", payload))
+			r.Add(userEventOf("deploy", payload))
 		}
 		r.Add(serf.MemberEvent{Type: serf.EventMemberJoin})
 		testkit.Eventually(t, "the handler runs", func() bool { return exists(started) })
 		r.Close(test.grace)
-		r.Add(user("deploy", "late"))
+		r.Add(userEventOf("deploy", "late"))
 		if found := tracker.list(); found != test.calls {
 			t.Errorf("%q, and not %q", found, test.calls)
 		}
@@ -162,25 +166,25 @@ func exists(path string) bool {
 	return len(matches) == 1
 }
 
-// unfinished returns an event of an earlier life, whose handlers began so many times.
-func unfinished(name, payload string, begun int) serf.UnfinishedEvent {
+// unfinishedEvent returns an event of an earlier life. begun is the number of times that its handlers began.
+func unfinishedEvent(name, payload string, begun int) serf.UnfinishedEvent {
 	return serf.UnfinishedEvent{
 		UserEvent: serf.UserEvent{LTime: 7, Name: name, Payload: []byte(payload)}, HasBegun: begun > 0, HasBegunAgain: begun > 1,
 	}
 }
 
-// After a start, what never began runs in its order. What was cut off is reported; a handler for that runs, and one that may run again does,
-// both once in all lives.
+// After a start, handlers that never began run in the order of their events. Events that were cut off are logged, and
+// the handlers with the filters unfinished and rerun run for them, once in all lives.
 func TestResume(t *testing.T) {
 	t.Parallel()
 	ran := filepath.Join(t.TempDir(), "ran")
 	write := "echo $SERF_EVENT $SERF_USER_EVENT $SERF_USER_LTIME $SERF_USER_RERUN. $(cat) >>" + ran
 	r, tracker, output := trackedRunner(t, 0, "user:plain=echo plain; "+write, "rerun:again=echo again; "+write, "unfinished:special=echo special; "+write, "user:special=true")
 	r.Resume([]serf.UnfinishedEvent{
-		unfinished("plain", "1", 1), unfinished("plain", "2", 0), unfinished("again", "3", 1), unfinished("again", "4", 2),
-		unfinished("special", "5", 1), unfinished("special", "6", 2), unfinished("gone", "7", 0), unfinished("again", "8", 0),
+		unfinishedEvent("plain", "1", 1), unfinishedEvent("plain", "2", 0), unfinishedEvent("again", "3", 1), unfinishedEvent("again", "4", 2),
+		unfinishedEvent("special", "5", 1), unfinishedEvent("special", "6", 2), unfinishedEvent("gone", "7", 0), unfinishedEvent("again", "8", 0),
 	})
-	r.Add(user("plain", "new"))
+	r.Add(userEventOf("plain", "new"))
 	testkit.Eventually(t, "the new event is done", func() bool { return strings.HasSuffix(tracker.list(), "done new echo=0") })
 	r.Close(time.Minute)
 	// (a script that runs and the rest of Resume are concurrent)
@@ -215,7 +219,7 @@ func TestResume(t *testing.T) {
 	}
 }
 
-// Only handlers have these kinds of filters. A stream of RPC doesn't.
+// Only handlers can have these kinds of filters. A client's stream can't have them.
 func TestFiltersOfHandlers(t *testing.T) {
 	for text, want := range map[string]Filters{
 		"unfinished": {{"unfinished", ""}}, "rerun:deploy,member-join": {{"rerun", "deploy"}, {"member-join", ""}}, "unfinished:x": {{"unfinished", "x"}},
@@ -244,15 +248,15 @@ func TestFiltersOfHandlers(t *testing.T) {
 	}
 }
 
-// A script that the agent's end cuts off, and those after it, leave the event open.
+// If the agent's end cuts off a script, the event stays open, and the scripts after it don't run.
 func TestRunAll(t *testing.T) {
 	r, _ := newRunner(t, 0, "true", "true")
 	ended, cancel := context.WithCancel(context.Background())
-	if runs, isWhole := r.runAll(ended, r.runsFor(user("deploy", ""))); !isWhole || fmt.Sprint(runs) != "[{true 0} {true-2 0}]" {
+	if runs, isWhole := r.runAll(ended, r.runsFor(userEventOf("deploy", ""))); !isWhole || fmt.Sprint(runs) != "[{true 0} {true-2 0}]" {
 		t.Error("two scripts that ended are not whole", runs)
 	}
 	cancel()
-	if runs, isWhole := r.runAll(ended, r.runsFor(user("deploy", ""))); isWhole || len(runs) > 0 || r.Results()[NeverRun] != 2 {
+	if runs, isWhole := r.runAll(ended, r.runsFor(userEventOf("deploy", ""))); isWhole || len(runs) > 0 || r.Results()[NeverRun] != 2 {
 		t.Error(r.Results(), runs)
 	}
 	if !errors.Is(ended.Err(), context.Canceled) {

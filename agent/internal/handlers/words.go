@@ -39,6 +39,7 @@ func environment(self Self, e serf.Event) []string {
 	return variables
 }
 
+// sortedKeys returns the names of the tags, sorted.
 func sortedKeys(tags map[string]string) []string {
 	keys := make([]string, 0, len(tags))
 	for key := range tags {
@@ -68,8 +69,9 @@ func withNewline(payload []byte) []byte {
 	return payload
 }
 
-// input returns a script's standard input: a line for each member, or the payload, with a newline at its end.
-func input(e serf.Event) []byte {
+// standardInput returns a script's standard input. For a member event, it has a line for each member. For other events,
+// it is the payload, with a newline at its end.
+func standardInput(e serf.Event) []byte {
 	if event, ok := userEvent(e); ok {
 		return withNewline(event.Payload)
 	}

@@ -42,7 +42,7 @@ func TestInput(t *testing.T) {
 		{&serf.Query{Payload: []byte("a\nb")}, "a\nb\n"},
 		{serf.MemberEvent{Type: serf.EventMemberJoin, Members: members}, "alpha\t127.0.1.1\tweb\trole=web,x=a\\tb\\nc\nbeta\t::1\t\t\n"},
 	} {
-		if found := string(input(test.e)); found != test.want {
+		if found := string(standardInput(test.e)); found != test.want {
 			t.Errorf("%q", found)
 		}
 	}

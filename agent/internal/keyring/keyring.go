@@ -23,7 +23,7 @@ const (
 // written to the file. If path is empty, key is the only key, or, if it is nil, there is no keyring.
 func Open(path string, key []byte) (*memberlist.Keyring, error) {
 	if path != "" {
-		keys, err := read(path)
+		keys, err := readKeys(path)
 		if err == nil {
 			return memberlist.NewKeyring(keys, keys[0])
 		}
@@ -45,7 +45,8 @@ func Open(path string, key []byte) (*memberlist.Keyring, error) {
 	return ring, serfagent.WriteFile(path, data, 0o600)
 }
 
-func read(path string) ([][]byte, error) {
+// readKeys reads and checks the keys of a file.
+func readKeys(path string) ([][]byte, error) {
 	data, err := serfagent.ReadFile(path, maxFile)
 	if err != nil {
 		return nil, err

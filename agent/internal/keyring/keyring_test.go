@@ -12,13 +12,13 @@ import (
 	"kitchenrue.example/agent/internal/testkit"
 )
 
-func key(fill byte) []byte { return bytes.Repeat([]byte{fill}, 16) }
+func testKey(fill byte) []byte { return bytes.Repeat([]byte{fill}, 16) }
 
-func encodedKey(fill byte) string { return base64.StdEncoding.EncodeToString(key(fill)) }
+func encodedKey(fill byte) string { return base64.StdEncoding.EncodeToString(testKey(fill)) }
 
 func TestKeysOfAFile(t *testing.T) {
 	path := filepath.Join(t.TempDir(), "keys")
-	if ring, err := Open(path, key(1)); err != nil || !reflect.DeepEqual(ring.GetKeys(), [][]byte{key(1)}) {
+	if ring, err := Open(path, testKey(1)); err != nil || !reflect.DeepEqual(ring.GetKeys(), [][]byte{testKey(1)}) {
 		t.Fatal(ring, err)
 	}
 	if data, err := os.ReadFile(path); err != nil || strings.Join(strings.Fields(string(data)), "") != `["`+encodedKey(1)+`"]` {
@@ -29,10 +29,10 @@ func TestKeysOfAFile(t *testing.T) {
 	}
 	testkit.Write(t, path, `["`+encodedKey(2)+`", "`+encodedKey(1)+`"]`)
 	// The file overrides the key, and the first of its keys encrypts.
-	if ring, err := Open(path, key(3)); err != nil || !reflect.DeepEqual(ring.GetKeys(), [][]byte{key(2), key(1)}) {
+	if ring, err := Open(path, testKey(3)); err != nil || !reflect.DeepEqual(ring.GetKeys(), [][]byte{testKey(2), testKey(1)}) {
 		t.Error(ring, err)
 	}
-	if ring, err := Open("", key(1)); err != nil || len(ring.GetKeys()) != 1 {
+	if ring, err := Open("", testKey(1)); err != nil || len(ring.GetKeys()) != 1 {
 		t.Error(ring, err)
 	}
 	if ring, err := Open("", nil); err != nil || ring != nil {
@@ -40,7 +40,7 @@ func TestKeysOfAFile(t *testing.T) {
 	}
 }
 
-// A file may have maxKeys keys, and not one more.
+// A file may have maxKeys keys, but not one more.
 func TestKeysAreBounded(t *testing.T) {
 	path := filepath.Join(t.TempDir(), "keys")
 	for _, count := range []int{maxKeys, maxKeys + 1} {
@@ -65,7 +65,7 @@ func TestBadFiles(t *testing.T) {
 			t.Error(path)
 		}
 	}
-	if _, err := Open(filepath.Join(folder, "none", "none"), key(1)); err == nil {
+	if _, err := Open(filepath.Join(folder, "none", "none"), testKey(1)); err == nil {
 		t.Error("a key was written to a folder that doesn't exist")
 	}
 }

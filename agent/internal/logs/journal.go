@@ -12,7 +12,7 @@ import (
 // priorities are the journal's priorities of the levels. They are syslog's numbers for the severities.
 var priorities = map[Level]string{Trace: "<7>", Debug: "<7>", Info: "<6>", Warn: "<4>", Err: "<3>"}
 
-// IsJournal reports whether systemd's journal reads what is written to out.
+// IsJournal reports whether out is connected to systemd's journal.
 func IsJournal(out io.Writer) bool {
 	file, ok := out.(*os.File)
 	if !ok {
@@ -31,7 +31,7 @@ func IsJournal(out io.Writer) bool {
 	return ok && stat.Dev == device && stat.Ino == inode
 }
 
-// timeLayout is the time that the Logger writes in front of a line.
+// timeLayout is the format of the time that the Logger writes in front of a line.
 const timeLayout = "2006/01/02 15:04:05 "
 
 // journalLine returns a line for the journal: with its priority, and without its time, since the journal adds one. Each
@@ -46,8 +46,8 @@ func journalLine(level Level, text string) string {
 	return priority + strings.ReplaceAll(text, "\n", "\n"+priority+"| ") + "\n"
 }
 
-// Sentence returns a sentence of the program for its standard error, with the priority of an error if the journal reads
-// it.
+// Sentence returns a sentence for the program's standard error. If the journal reads it, the sentence begins with the
+// priority of an error.
 func Sentence(errs io.Writer, text string) string {
 	if IsJournal(errs) {
 		return priorities[Err] + text

@@ -11,10 +11,10 @@ import (
 	"time"
 )
 
-// keptLines is how many lines are kept for followers that start later.
+// keptLines is the number of lines that are kept for followers that start later.
 const keptLines = 512
 
-// MaxWaiting is how many lines wait for a follower. Further lines are dropped for this follower.
+// MaxWaiting is the maximum number of lines that wait for a follower. Further lines are dropped for this follower.
 const MaxWaiting = 512
 
 // MaxLine is the maximum length of a line in bytes. The rest is cut off.
@@ -47,12 +47,12 @@ func LevelOf(name string) (Level, bool) {
 	return 0, false
 }
 
-// lineLevel returns the level that a line has in brackets, or Info if it has none.
-func lineLevel(line []byte) Level {
-	from := bytes.IndexByte(line, '[')
+// lineLevel returns the level in the brackets of a line, or Info if there is none.
+func lineLevel(line string) Level {
+	from := strings.IndexByte(line, '[')
 	if from >= 0 {
-		if to := bytes.IndexByte(line[from:], ']'); to > 0 {
-			if level, ok := LevelOf(string(line[from+1 : from+to])); ok {
+		if to := strings.IndexByte(line[from:], ']'); to > 0 {
+			if level, ok := LevelOf(line[from+1 : from+to]); ok {
 				return level
 			}
 		}
@@ -82,7 +82,8 @@ type Log struct {
 	followers map[*Follower]struct{}
 	// syslog receives the lines that are written. It is nil if the log isn't sent to syslog.
 	syslog chan string
-	// isJournal is true if systemd's journal reads out. Then each line begins with its priority, and has no time.
+	// isJournal is true if the output is connected to systemd's journal. Each line then begins with its priority, and
+	// has no time.
 	isJournal bool
 	// limits has the limit of each kind of line that packets can cause, and interval is how long it holds.
 	limits   map[string]*limit
@@ -103,12 +104,12 @@ func (l *Log) SetLevel(level Level) {
 	l.level = level
 }
 
-// line is a line that is kept: its text, or, until it is rendered, the arguments of its text.
+// line is a kept line. It has its text or, until it is rendered, the arguments for its text.
 type line struct {
-	text   string
-	at     time.Time
-	format string
-	args   []interface{}
+	text     string
+	loggedAt time.Time
+	format   string
+	args     []interface{}
 }
 
 // textOf returns a line as it is shown.
@@ -120,17 +121,17 @@ func textOf(line []byte) string {
 	return strings.Map(replaceControl, string(line))
 }
 
-// render returns the line's text, and makes it if necessary.
+// render returns the line's text. If there is no text yet, it formats it first.
 func (l *line) render() string {
 	if l.format != "" {
-		text := textOf([]byte(l.at.Format("2006/01/02 15:04:05 ") + fmt.Sprintf(l.format, l.args...)))
+		text := textOf([]byte(l.loggedAt.Format("2006/01/02 15:04:05 ") + fmt.Sprintf(l.format, l.args...)))
 		*l = line{text: text}
 	}
 	return l.text
 }
 
-// keep keeps a line for followers that start later. mu is held.
-func (l *Log) keep(kept line) {
+// keepForFollowers keeps a line for followers that start later. The caller holds mu.
+func (l *Log) keepForFollowers(kept line) {
 	if len(l.ring) < keptLines {
 		l.ring = append(l.ring, kept)
 	} else {
@@ -139,14 +140,14 @@ func (l *Log) keep(kept line) {
 	}
 }
 
-// Lazyf is Printf for lines that are written often. The text is made only if the line is written or followed. The
+// Lazyf is Printf for lines that are written often. It formats the text only if the line is written or followed. The
 // arguments must not change later.
 func (l *Log) Lazyf(format string, args ...interface{}) {
-	level := lineLevel([]byte(format))
+	level := lineLevel(format)
 	l.mu.Lock()
 	isWanted := level >= l.level || len(l.followers) > 0
 	if !isWanted {
-		l.keep(line{at: time.Now(), format: format, args: args})
+		l.keepForFollowers(line{loggedAt: time.Now(), format: format, args: args})
 	}
 	l.mu.Unlock()
 	if isWanted {
@@ -156,7 +157,7 @@ func (l *Log) Lazyf(format string, args ...interface{}) {
 
 // LimitedLazyf is Lazyf for lines of a kind that are limited, because packets can cause them.
 func (l *Log) LimitedLazyf(kind, format string, args ...interface{}) {
-	level := lineLevel([]byte(format))
+	level := lineLevel(format)
 	l.mu.Lock()
 	isAbove := l.isAboveLimit(kind, level, func() string { return fmt.Sprintf(format, args...) })
 	l.mu.Unlock()
@@ -165,10 +166,10 @@ func (l *Log) LimitedLazyf(kind, format string, args ...interface{}) {
 	}
 }
 
-// Write implements io.Writer for the Logger. It takes one line.
+// Write implements io.Writer for the Logger, which passes one line in each call.
 func (l *Log) Write(written []byte) (int, error) {
 	text := textOf(written)
-	level := lineLevel([]byte(text))
+	level := lineLevel(text)
 	l.mu.Lock()
 	defer l.mu.Unlock()
 	if l.isAboveLimit(kindOf(level, text), level, func() string { return text }) {
@@ -178,9 +179,9 @@ func (l *Log) Write(written []byte) (int, error) {
 	return len(written), nil
 }
 
-// write keeps a line, and passes it on to followers, syslog and the output. mu is held.
+// write keeps a line, and passes it on to followers, syslog and the output. The caller holds mu.
 func (l *Log) write(level Level, text string) {
-	l.keep(line{text: text})
+	l.keepForFollowers(line{text: text})
 	for follower := range l.followers {
 		follower.offer(level, text)
 	}
@@ -190,12 +191,12 @@ func (l *Log) write(level Level, text string) {
 		default:
 		}
 		// There is no place to report that the log can't be written.
-		_, _ = io.WriteString(l.out, l.form(level, text))
+		_, _ = io.WriteString(l.out, l.formatForOutput(level, text))
 	}
 }
 
-// form returns a line as it is written.
-func (l *Log) form(level Level, text string) string {
+// formatForOutput returns a line in the form that the output needs.
+func (l *Log) formatForOutput(level Level, text string) string {
 	if l.isJournal {
 		return journalLine(level, text)
 	}
@@ -204,13 +205,14 @@ func (l *Log) form(level Level, text string) string {
 
 // Follower receives the lines of a level and above.
 type Follower struct {
-	// Lines are the lines. A follower that is too slow misses some.
+	// Lines receives the lines. A follower that is too slow misses some of them.
 	Lines chan string
 
 	level Level
 	log   *Log
 }
 
+// offer passes a line of the follower's level or above to the follower, and drops it if the follower is too slow.
 func (f *Follower) offer(level Level, text string) {
 	if level >= f.level {
 		select {
@@ -227,7 +229,7 @@ func (l *Log) Follow(level Level) *Follower {
 	defer l.mu.Unlock()
 	for i := range l.ring {
 		text := l.ring[(l.oldest+i)%len(l.ring)].render()
-		f.offer(lineLevel([]byte(text)), text)
+		f.offer(lineLevel(text), text)
 	}
 	l.followers[f] = struct{}{}
 	return f

@@ -62,7 +62,7 @@ func (s *countedValue) String() string {
 	return "shown\x1b"
 }
 
-// A line of Lazyf is made only if it is written or followed, and only once.
+// Lazyf formats a line only if it is written or followed, and only once.
 func TestLazyf(t *testing.T) {
 	var out bytes.Buffer
 	var times countedValue
@@ -142,9 +142,9 @@ func TestSyslog(t *testing.T) {
 	end()
 	// local3 is 19 * 8.
 	for _, want := range []string{"<158> a: b", "<157> serf: [WARN] c", "<157> none", "<156> d | [ERR] e", "<155> f", "<159> g"} {
-		room := make([]byte, 1024)
-		count, err := syslogd.Read(room)
-		got := string(room[:count])
+		buffer := make([]byte, 1024)
+		count, err := syslogd.Read(buffer)
+		got := string(buffer[:count])
 		head, text, _ := strings.Cut(want, " ")
 		if err != nil || !strings.HasPrefix(got, head) || !strings.HasSuffix(strings.TrimSpace(got), text) || !strings.Contains(got, " serf[") {
 			t.Errorf("%q: %q %v", want, got, err)
@@ -196,7 +196,7 @@ func TestNamedKinds(t *testing.T) {
 			l.LimitedLazyf("agent: Received event without a handler", "[INFO] agent: Received event: %s", fmt.Sprint("x", i))
 			l.Lazyf("[INFO] agent: Received event: %s", "deploy")
 		}
-		kept := strings.Join(followed(l, Info), "\n")
+		kept := strings.Join(linesForFollower(l, Info), "\n")
 		if count := strings.Count(kept, ": x"); count != maxLines || strings.Count(kept, ": deploy") != 3*maxLines {
 			t.Error(level, count, kept)
 		}
@@ -211,8 +211,8 @@ func TestNamedKinds(t *testing.T) {
 	}
 }
 
-// followed returns the lines that are kept for a new follower.
-func followed(l *Log, level Level) (lines []string) {
+// linesForFollower returns the lines that are kept for a new follower.
+func linesForFollower(l *Log, level Level) (lines []string) {
 	f := l.Follow(level)
 	defer f.Close()
 	for len(f.Lines) > 0 {
@@ -221,7 +221,8 @@ func followed(l *Log, level Level) (lines []string) {
 	return lines
 }
 
-// A flood of lines of a kind is limited, and other kinds aren't. After the interval, a line has the number of the others.
+// In a flood, the lines of one kind are limited, and lines of other kinds aren't. After the interval, one line has the
+// number of lines that were left out.
 func TestLimits(t *testing.T) {
 	var out testkit.Output
 	l := New(&out, Info)

@@ -34,8 +34,8 @@ var severities = map[Level]func(*syslog.Writer, string) error{
 }
 
 // ToSyslog also sends the lines that the log writes from now on to syslog, until stop is called. If network and address
-// are empty, it is the machine's own syslog. A syslog that hangs doesn't delay the log: at most MaxWaiting lines wait
-// for it, and further ones are dropped.
+// are empty, they go to the machine's own syslog. A syslog that hangs doesn't delay the log: at most MaxWaiting lines
+// wait for it, and further ones are dropped.
 func (l *Log) ToSyslog(network, address, facility string) (stop func(), err error) {
 	priority, ok := facilities[strings.ToUpper(facility)]
 	if !ok {
@@ -70,7 +70,7 @@ func (l *Log) ToSyslog(network, address, facility string) (stop func(), err erro
 
 // sendToSyslog sends a line without its time and level, since syslog adds its own.
 func sendToSyslog(out *syslog.Writer, line string) {
-	level := lineLevel([]byte(line))
+	level := lineLevel(line)
 	if _, rest, ok := strings.Cut(line, "["+level.String()+"] "); ok {
 		line = rest
 	}

@@ -31,9 +31,9 @@ type Measures struct {
 	signal *metrics.InmemSignal
 	page   *page
 	done   chan struct{}
-	// sent has the values of the agent's own counters that were sent last. mu protects it.
-	mu   sync.Mutex
-	sent map[string]float64
+	// lastSent has the values of the agent's own counters at the last time that they were sent. mu protects it.
+	mu       sync.Mutex
+	lastSent map[string]float64
 }
 
 // Start configures the metrics of the whole process. An address is HOST:PORT, or empty. SIGUSR1 writes to dumps.
@@ -61,10 +61,10 @@ func Start(statsite, statsd, prometheus string, dumps io.Writer) (*Measures, err
 		}
 		sinks = append(sinks, sink)
 	}
-	m := &Measures{done: make(chan struct{}), sent: map[string]float64{}}
+	m := &Measures{done: make(chan struct{}), lastSent: map[string]float64{}}
 	if prometheus != "" {
 		var err error
-		if m.page, err = listen(prometheus, conf.HostName); err != nil {
+		if m.page, err = listenPage(prometheus, conf.HostName); err != nil {
 			return nil, fmt.Errorf("-prometheus-addr: %w", err)
 		}
 		sinks = append(sinks, m.page.totals)
@@ -79,7 +79,7 @@ func Start(statsite, statsd, prometheus string, dumps io.Writer) (*Measures, err
 // Watch sends the agent's own figures every ten seconds, and shows them on the page.
 func (m *Measures) Watch(stats Stats) {
 	if m.page != nil {
-		m.page.watch(stats)
+		m.page.setStats(stats)
 	}
 	go func() {
 		ticker := time.NewTicker(interval)
@@ -105,14 +105,14 @@ func (m *Measures) sendFigures(list []figure) {
 			continue
 		}
 		name := strings.Join(figure.words, ".")
-		if grown := figure.value - m.sent[name]; grown > 0 {
-			metrics.IncrCounter(figure.words, float32(grown))
+		if growth := figure.value - m.lastSent[name]; growth > 0 {
+			metrics.IncrCounter(figure.words, float32(growth))
 		}
-		m.sent[name] = figure.value
+		m.lastSent[name] = figure.value
 	}
 }
 
-// Close stops sending.
+// Close stops sending metrics.
 func (m *Measures) Close() {
 	close(m.done)
 	m.signal.Stop()

@@ -19,8 +19,8 @@ import (
 	"kitchenrue.example/agent/internal/testkit"
 )
 
-// fetch returns the page.
-func fetch(t *testing.T, address net.Addr) string {
+// fetchPage returns the page.
+func fetchPage(t *testing.T, address net.Addr) string {
 	t.Helper()
 	client := http.Client{Transport: &http.Transport{DisableKeepAlives: true}}
 	answer, err := client.Get("http://" + address.String() + "/metrics")
@@ -33,8 +33,9 @@ func fetch(t *testing.T, address net.Addr) string {
 	return string(text)
 }
 
-// lint passes a page to Prometheus's own check, if it is installed: it must be valid, and keep its rules for names.
-func lint(t *testing.T, text string) {
+// checkByPromtool checks with Prometheus's own promtool, if it is installed, that the page is valid and follows Prometheus's rules
+// for names.
+func checkByPromtool(t *testing.T, text string) {
 	t.Helper()
 	promtool, err := exec.LookPath("promtool")
 	if err != nil {
@@ -67,9 +68,9 @@ func TestSinks(t *testing.T) {
 	testkit.Must(t, err)
 	defer statsd.Close()
 	go func() {
-		room := make([]byte, 1<<16)
-		for count, _, err := statsd.ReadFrom(room); err == nil; count, _, err = statsd.ReadFrom(room) {
-			for _, line := range strings.Split(string(room[:count]), "\n") {
+		buffer := make([]byte, 1<<16)
+		for count, _, err := statsd.ReadFrom(buffer); err == nil; count, _, err = statsd.ReadFrom(buffer) {
+			for _, line := range strings.Split(string(buffer[:count]), "\n") {
 				fmt.Fprintln(&sent, "statsd "+line)
 			}
 		}
@@ -92,7 +93,7 @@ func TestSinks(t *testing.T) {
 	metrics.IncrCounterWithLabels([]string{"agent", "handler", "results"}, 1, []metrics.Label{{Name: "handler", Value: `a\"b`}, {Name: "result", Value: "failed"}})
 	metrics.AddSampleWithLabels([]string{"agent", "handler", "duration"}, 1500, []metrics.Label{{Name: "handler", Value: "deploy"}})
 	metrics.AddSample([]string{"agent", "invoke", "exit 3"}, 1500)
-	// Counters are sent as their growth, and appear on the page once.
+	// The growth of each counter is sent, and each counter appears on the page once.
 	m.sendFigures(figures(m.page.stats))
 	m.sendFigures(figures(m.page.stats))
 	for _, what := range []string{
@@ -102,7 +103,7 @@ func TestSinks(t *testing.T) {
 	} {
 		testkit.Eventually(t, what, func() bool { return sent.Has(what) })
 	}
-	text := fetch(t, m.page.listener.Addr())
+	text := fetchPage(t, m.page.listener.Addr())
 	for _, what := range []string{
 		"# TYPE serf_events_total counter\nserf_events_total 2\n", "# TYPE serf_events_by_name_total counter\nserf_events_by_name_total{name=\"de-ploy\"} 1\n",
 		"serf_queries_by_name_total{name=\"q\"} 1\nserf_queries_by_name_total{name=\"r\"} 1\n",
@@ -129,10 +130,10 @@ func TestSinks(t *testing.T) {
 	}
 	// go-metrics reports on the process once a second.
 	testkit.Eventually(t, "the metrics of the process are there", func() bool {
-		text = fetch(t, m.page.listener.Addr())
+		text = fetchPage(t, m.page.listener.Addr())
 		return strings.Contains(text, "\nruntime_gc_paused_seconds ")
 	})
-	lint(t, text)
+	checkByPromtool(t, text)
 	testkit.Eventually(t, "the metrics are dumped", func() bool {
 		testkit.Must(t, syscall.Kill(syscall.Getpid(), syscall.SIGUSR1))
 		time.Sleep(100 * time.Millisecond)
@@ -146,17 +147,17 @@ func TestSinks(t *testing.T) {
 
 // The number of names and the number of readers are bounded.
 func TestBounds(t *testing.T) {
-	p, err := listen("127.0.0.1:0", "host")
+	p, err := listenPage("127.0.0.1:0", "host")
 	testkit.Must(t, err)
 	defer p.close()
 	for i := 0; i < 2*maxNames; i++ {
 		p.totals.IncrCounterWithLabels([]string{Service, fmt.Sprint("c", i)}, 1, nil)
 	}
 	p.totals.SetGaugeWithLabels([]string{"c1"}, 100, nil)
-	if count := strings.Count(fetch(t, p.listener.Addr()), "# TYPE c"); count != maxNames {
+	if count := strings.Count(fetchPage(t, p.listener.Addr()), "# TYPE c"); count != maxNames {
 		t.Error(count)
 	}
-	if text := fetch(t, p.listener.Addr()); !strings.Contains(text, "\nc1_total 1\n") {
+	if text := fetchPage(t, p.listener.Addr()); !strings.Contains(text, "\nc1_total 1\n") {
 		t.Error("a gauge in a counter's place")
 	}
 	var idle []net.Conn
@@ -183,7 +184,7 @@ func TestBounds(t *testing.T) {
 		defer p.mu.Unlock()
 		return p.readers == 0
 	})
-	fetch(t, p.listener.Addr())
+	fetchPage(t, p.listener.Addr())
 }
 
 func TestBadAddresses(t *testing.T) {

@@ -16,8 +16,8 @@ const monitoring = "../../package/monitoring/"
 // metricName matches a metric of the agent in an expression.
 var metricName = regexp.MustCompile(`\b(?:agent|serf|memberlist|process|go|kitchenrue_agent)_[a-z0-9_]+`)
 
-// expressions returns the alerts' and the dashboard's expressions.
-func expressions(t *testing.T) []string {
+// monitoringExpressions returns the alerts' and the dashboard's expressions.
+func monitoringExpressions(t *testing.T) []string {
 	t.Helper()
 	var found []string
 	for _, line := range strings.Split(testkit.Read(t, monitoring+"alerts.yml"), "\n") {
@@ -46,10 +46,10 @@ func expressions(t *testing.T) []string {
 	return found
 }
 
-// Each metric in the alerts and in the dashboard is one that the page has, and promtool accepts the files.
+// The page has each metric that the alerts and the dashboard use, and promtool accepts the files.
 func TestMonitoring(t *testing.T) {
 	pageNames := map[string]bool{}
-	for _, families := range []map[string]family{known, described} {
+	for _, families := range []map[string]family{metricFamilies, figureFamilies} {
 		for _, family := range families {
 			pageNames[family.name] = true
 			if family.kind == "summary" {
@@ -60,7 +60,7 @@ func TestMonitoring(t *testing.T) {
 	for _, total := range processTotals() {
 		pageNames[total.family.name] = true
 	}
-	found := expressions(t)
+	found := monitoringExpressions(t)
 	if len(found) < 30 {
 		t.Error("only", len(found), "expressions were found")
 	}

@@ -10,15 +10,15 @@ import (
 	"github.com/armon/go-metrics"
 )
 
-// family is a metric of the page: its name, its type, and what it measures.
+// family is a metric of the page: its name, its type, and a help text.
 type family struct {
 	name, kind, help string
-	// unit is by what a sum of go-metrics is divided, or 0 for 1: go-metrics measures times in milliseconds, and the page
-	// has them in seconds.
+	// unit is the number by which a value of go-metrics is divided, and 0 stands for 1. For example, go-metrics
+	// measures times in milliseconds, and the page shows seconds.
 	unit float64
 }
 
-// The units of times in go-metrics, in a second.
+// The number of milliseconds and of nanoseconds in a second, for the times of go-metrics.
 const (
 	milli = 1e3
 	nano  = 1e9
@@ -32,8 +32,9 @@ func (f *family) inUnit(value float64) float64 {
 	return value / f.unit
 }
 
-// known are the metrics of go-metrics that have their own name on the page or an explanation, by their names there.
-var known = map[string]family{
+// metricFamilies maps names of go-metrics to metrics of the page, for those that have a different name there or a help
+// text.
+var metricFamilies = map[string]family{
 	"agent.handler.results":    {"agent_handler_results_total", "counter", "Runs of a handler by their result, and events for which it never ran.", 0},
 	"agent.handler.duration":   {"agent_handler_duration_seconds", "summary", "How long a handler ran.", milli},
 	"agent.ipc.command":        {"agent_ipc_commands_total", "counter", "Requests of RPC clients.", 0},
@@ -64,13 +65,13 @@ var known = map[string]family{
 	"memberlist.pushPullNode":   {"memberlist_push_pull_node_seconds", "summary", "How long an exchange of states took.", milli},
 }
 
-// familyOf returns the metric of the page for a metric of go-metrics.
+// familyOf returns the metric of the page that shows a metric of go-metrics.
 func familyOf(words []string, kind string) *family {
 	key := strings.Join(words, ".")
 	if isByName(words) {
 		key = strings.Join(words[:2], ".") + ".NAME"
 	}
-	if entry, ok := known[key]; ok && entry.kind == kind {
+	if entry, ok := metricFamilies[key]; ok && entry.kind == kind {
 		return &entry
 	}
 	name := pageName(words)
@@ -80,12 +81,12 @@ func familyOf(words []string, kind string) *family {
 	return &family{name, kind, "The metric " + helpText(key) + " of go-metrics.", 0}
 }
 
-// isByName reports whether the last word is the name of an event or a query. It comes from the network.
+// isByName reports whether the last word is the name of an event or a query. That name comes from the network.
 func isByName(words []string) bool {
 	return len(words) == 3 && words[0] == "serf" && (words[1] == "events" || words[1] == "queries")
 }
 
-// isInvoke reports whether this is Serf's metric of a handler, which is named by the whole command.
+// isInvoke reports whether words are the name of Serf's metric of a handler's runs. This name contains the whole command.
 func isInvoke(words []string) bool {
 	return len(words) == 3 && words[0] == "agent" && words[1] == "invoke"
 }
@@ -98,7 +99,7 @@ func nameLabel(words []string, labels []metrics.Label) []metrics.Label {
 	return labels
 }
 
-// labelText returns labels as the page has them.
+// labelText returns labels in the syntax of the page.
 func labelText(labels []metrics.Label) string {
 	if len(labels) == 0 {
 		return ""
@@ -136,7 +137,7 @@ func pageName(words []string) string {
 	return name.String()
 }
 
-// figure is a number of `serf info`: its metric on the page, and its words for the other sinks.
+// figure is a number of `serf info`: its metric and label on the page, and the words of its name for the other sinks.
 type figure struct {
 	family *family
 	labels string
@@ -144,9 +145,9 @@ type figure struct {
 	value  float64
 }
 
-// described are the figures that are on the page, by their section and name. Those of a handler's results are there by
-// handler instead.
-var described = map[string]family{
+// figureFamilies has the figures that are on the page, by their section and name. The results of handlers are not among
+// them, because the page shows these for each handler.
+var figureFamilies = map[string]family{
 	"agent.handlers_waiting": {"agent_handlers_waiting", "gauge", "Events that wait for their handlers.", 0},
 	"agent.handlers_unfinished": {"agent_handlers_unfinished", "gauge",
 		"Events whose handlers had begun when an earlier life of the agent ended, as found at the start.", 0},
@@ -174,21 +175,21 @@ var described = map[string]family{
 	"serf.IGNORED":           {"serf_ignored_total", "counter", "Events and queries that were ignored although they may never have been handed out, by the reason.", 0},
 }
 
-// The prefixes of the figures that have a reason.
+// The prefixes of figures whose names end with a reason.
 const (
 	refusedPrefix = "refused_"
 	ignoredPrefix = "ignored_"
 )
 
-// describe returns the metric of a figure and its label, or nil if it is not on the page.
-func describe(section, name string) (*family, string) {
+// familyOfFigure returns the metric of a figure and its label, or nil if it is not on the page.
+func familyOfFigure(section, name string) (*family, string) {
 	key, label := section+"."+name, ""
-	for prefix, of := range map[string]string{refusedPrefix: "serf.REASON", ignoredPrefix: "serf.IGNORED"} {
+	for prefix, familyKey := range map[string]string{refusedPrefix: "serf.REASON", ignoredPrefix: "serf.IGNORED"} {
 		if section == "serf" && strings.HasPrefix(name, prefix) {
-			key, label = of, fmt.Sprintf("{reason=%q}", strings.TrimPrefix(name, prefix))
+			key, label = familyKey, fmt.Sprintf("{reason=%q}", strings.TrimPrefix(name, prefix))
 		}
 	}
-	if entry, ok := described[key]; ok {
+	if entry, ok := figureFamilies[key]; ok {
 		return &entry, label
 	}
 	return nil, ""
@@ -199,7 +200,7 @@ func isFigure(words []string) bool {
 	if len(words) != 2 {
 		return false
 	}
-	family, _ := describe(words[0], words[1])
+	family, _ := familyOfFigure(words[0], words[1])
 	return family != nil
 }
 
@@ -212,7 +213,7 @@ func figures(stats Stats) (list []figure) {
 			if err != nil {
 				continue
 			}
-			if family, labels := describe(section, name); family != nil {
+			if family, labels := familyOfFigure(section, name); family != nil {
 				list = append(list, figure{family, labels, []string{section, name}, number})
 			}
 		}

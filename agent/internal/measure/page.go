@@ -47,7 +47,8 @@ func (t *totals) add(words []string, labels []metrics.Label, kind string, update
 		words = words[1:]
 	}
 	if isFigure(words) || isInvoke(words) {
-		// The page reads the agent's own figures when it is read, and names handlers by a label.
+		// The page has other sources for these: it reads the agent's own figures when it is served, and it names
+		// handlers by a label.
 		return
 	}
 	family, text := familyOf(words, kind), labelText(nameLabel(words, labels))
@@ -79,8 +80,8 @@ func (t *totals) AddSampleWithLabels(key []string, val float32, labels []metrics
 	t.add(key, labels, "summary", func(t *total) { t.count++; t.sum += float64(val) })
 }
 
-// all returns a copy of all totals.
-func (t *totals) all() []total {
+// copyTotals returns a copy of all totals.
+func (t *totals) copyTotals() []total {
 	t.mu.Lock()
 	defer t.mu.Unlock()
 	all := make([]total, 0, len(t.byName))
@@ -90,20 +91,20 @@ func (t *totals) all() []total {
 	return all
 }
 
-// write writes totals, sorted by name.
-func write(to io.Writer, all []total) {
+// writeTotals writes totals, sorted by name.
+func writeTotals(to io.Writer, all []total) {
 	sort.Slice(all, func(i, j int) bool {
 		if all[i].family.name != all[j].family.name {
 			return all[i].family.name < all[j].family.name
 		}
 		return all[i].labels < all[j].labels
 	})
-	last := ""
+	lastFamily := ""
 	for _, total := range all {
 		family := total.family
-		if family.name != last {
+		if family.name != lastFamily {
 			fmt.Fprintf(to, "# HELP %s %s\n# TYPE %s %s\n", family.name, family.help, family.name, family.kind)
-			last = family.name
+			lastFamily = family.name
 		}
 		if family.kind == "summary" {
 			fmt.Fprintf(to, "%s_count%s %v\n%s_sum%s %v\n", family.name, total.labels, total.count, family.name, total.labels, family.inUnit(total.sum))
@@ -124,7 +125,8 @@ type page struct {
 	readers int
 }
 
-func listen(address, host string) (*page, error) {
+// listenPage serves the page at an address. host is the name of this host in the names of gauges.
+func listenPage(address, host string) (*page, error) {
 	p := &page{totals: newTotals(host)}
 	var err error
 	if p.listener, err = net.Listen("tcp", address); err != nil {
@@ -132,16 +134,16 @@ func listen(address, host string) (*page, error) {
 	}
 	mux := http.NewServeMux()
 	mux.HandleFunc("/metrics", p.serve)
-	const patience = 10 * time.Second
+	const ioTimeout = 10 * time.Second
 	p.server = &http.Server{
-		Handler: mux, ReadTimeout: patience, WriteTimeout: patience, IdleTimeout: time.Minute, MaxHeaderBytes: 8 << 10,
+		Handler: mux, ReadTimeout: ioTimeout, WriteTimeout: ioTimeout, IdleTimeout: time.Minute, MaxHeaderBytes: 8 << 10,
 		ConnState: p.limitReaders, ErrorLog: log.New(io.Discard, "", 0),
 	}
 	go func() { _ = p.server.Serve(p.listener) }()
 	return p, nil
 }
 
-// limitReaders closes a connection above maxReaders.
+// limitReaders counts the connections, and closes a new one if there are maxReaders already.
 func (p *page) limitReaders(conn net.Conn, state http.ConnState) {
 	p.mu.Lock()
 	defer p.mu.Unlock()
@@ -155,7 +157,8 @@ func (p *page) limitReaders(conn net.Conn, state http.ConnState) {
 	}
 }
 
-func (p *page) watch(stats Stats) {
+// setStats sets the function that returns the agent's own figures.
+func (p *page) setStats(stats Stats) {
 	p.mu.Lock()
 	defer p.mu.Unlock()
 	p.stats = stats
@@ -166,14 +169,14 @@ func (p *page) serve(to http.ResponseWriter, _ *http.Request) {
 	p.mu.Lock()
 	stats := p.stats
 	p.mu.Unlock()
-	all := append(p.totals.all(), processTotals()...)
+	all := append(p.totals.copyTotals(), processTotals()...)
 	if stats != nil {
 		for _, figure := range figures(stats) {
 			all = append(all, total{family: figure.family, labels: figure.labels, sum: figure.value})
 		}
 	}
 	to.Header().Set("Content-Type", "text/plain; version=0.0.4")
-	write(to, all)
+	writeTotals(to, all)
 }
 
 func (p *page) close() { _ = p.server.Close() }

@@ -10,16 +10,16 @@ import (
 	"kitchenrue.example/agent/internal/testkit"
 )
 
-// A gauge that is sent has the name of the host.
+// The name of a gauge that is sent contains the host's name.
 func TestHostNameOfGauges(t *testing.T) {
 	statsd, err := net.ListenPacket("udp", "127.0.0.1:0")
 	testkit.Must(t, err)
 	defer statsd.Close()
 	var sent testkit.Output
 	go func() {
-		room := make([]byte, 1<<16)
-		for count, _, err := statsd.ReadFrom(room); err == nil; count, _, err = statsd.ReadFrom(room) {
-			sent.Write(append(room[:count:count], '\n'))
+		buffer := make([]byte, 1<<16)
+		for count, _, err := statsd.ReadFrom(buffer); err == nil; count, _, err = statsd.ReadFrom(buffer) {
+			sent.Write(append(buffer[:count:count], '\n'))
 		}
 	}()
 	var dumps testkit.Output

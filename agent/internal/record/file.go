@@ -49,16 +49,17 @@ func lockRecord(file *os.File) error {
 	} else if err != nil {
 		return err
 	}
-	head := make([]byte, len(heading))
+	head := make([]byte, len(title))
 	if count, err := file.ReadAt(head, 0); err != nil && err != io.EOF {
 		return err
-	} else if string(head[:count]) != heading[:count] {
+	} else if string(head[:count]) != title[:count] {
 		return fmt.Errorf("%s is not a record", file.Name())
 	}
 	return nil
 }
 
-// Open opens a record whose files are rotated at limit bytes. The last call may exceed the limit.
+// Open opens a record. Its file is rotated when it has reached limit bytes, so the last call in a file may exceed the
+// limit.
 func Open(path string, limit int64) (*File, error) {
 	file, err := openFile(path)
 	if err != nil {
@@ -75,7 +76,8 @@ func Open(path string, limit int64) (*File, error) {
 // IsFull reports whether the file has reached its limit.
 func (f *File) IsFull() bool { return f.length >= f.limit }
 
-// Write appends to the file. It doesn't flush: a kill of the program loses nothing, but a power failure may.
+// Write appends to the file. It doesn't flush: if the program is killed, no bytes are lost, but a power failure may
+// lose some.
 func (f *File) Write(text []byte) (int, error) {
 	count, err := f.file.Write(text)
 	f.length += int64(count)
@@ -84,13 +86,13 @@ func (f *File) Write(text []byte) (int, error) {
 
 // Rotate starts a new file. If it fails, the old one is still used.
 func (f *File) Rotate() error {
-	numbered := func(number int) string { return f.path + "." + strconv.Itoa(number) }
+	numberedPath := func(number int) string { return f.path + "." + strconv.Itoa(number) }
 	for number := KeptFiles; number > 1; number-- {
-		if err := os.Rename(numbered(number-1), numbered(number)); err != nil && !errors.Is(err, os.ErrNotExist) {
+		if err := os.Rename(numberedPath(number-1), numberedPath(number)); err != nil && !errors.Is(err, os.ErrNotExist) {
 			return err
 		}
 	}
-	if err := os.Rename(f.path, numbered(1)); err != nil {
+	if err := os.Rename(f.path, numberedPath(1)); err != nil {
 		return err
 	}
 	file, err := openFile(f.path)

@@ -7,10 +7,10 @@ import (
 	"kitchenrue.example/serfagent"
 )
 
-// lines are calls and replies, as docs/SPEC.md writes them.
+// lines is a text of calls and replies, in the format of docs/SPEC.md.
 type lines struct{ text []byte }
 
-// line begins a line, and ends the one before.
+// line begins a line. If the line before has no end yet, it ends that one first.
 func (l *lines) line(word string) *lines {
 	if len(l.text) > 0 && l.text[len(l.text)-1] != '\n' {
 		l.text = append(l.text, '\n')
@@ -19,6 +19,7 @@ func (l *lines) line(word string) *lines {
 	return l
 }
 
+// word appends a word to the line. The methods below append other values in the same way.
 func (l *lines) word(word string) *lines {
 	l.text = append(append(l.text, ' '), word...)
 	return l
@@ -29,6 +30,7 @@ func (l *lines) number(n uint64) *lines {
 	return l
 }
 
+// bytes appends bytes in hex, or - if there are none.
 func (l *lines) bytes(data []byte) *lines {
 	if len(data) == 0 {
 		return l.word("-")
@@ -47,39 +49,37 @@ func (l *lines) boolean(value bool) *lines {
 	return l.word("0")
 }
 
-// end ends a reply with its empty line.
-func (l *lines) end() { l.text = append(l.text, "\n\n"...) }
+// endReply ends a reply with its empty line.
+func (l *lines) endReply() { l.text = append(l.text, "\n\n"...) }
 
-// moment writes when the calls after it were made, in nanoseconds since 1970.
-func (l *lines) moment(nanoseconds int64) {
+// writeMoment writes when the calls after it were made, in nanoseconds since 1970.
+func (l *lines) writeMoment(nanoseconds int64) {
 	l.line("at").number(uint64(nanoseconds)).text = append(l.text, '\n')
 }
 
-func (l *lines) sent(packet []byte) {
+// writeSent writes the line of a packet that is sent, if there is one.
+func (l *lines) writeSent(packet []byte) {
 	if packet != nil {
 		l.line("sent").bytes(packet)
 	}
 }
 
-func (l *lines) event(event *serfagent.Event) {
+// writeEvent writes the line of an event that is handed out, if there is one.
+func (l *lines) writeEvent(event *serfagent.Event) {
 	if event != nil {
 		l.line("event").number(event.Time).bytes(event.Name).bytes(event.Payload).boolean(event.Coalesce)
 	}
 }
 
-func (l *lines) handed(query *serfagent.PendingQuery, number uint64) {
+// writeHanded writes the line of a query that is handed out, if there is one. number is its number in this life.
+func (l *lines) writeHanded(query *serfagent.PendingQuery, number uint64) {
 	if query != nil {
 		l.line("handed").number(number).number(query.Time).number(uint64(query.ID)).bytes(query.Name).bytes(query.Payload)
 	}
 }
 
-// open writes the call that begins a life with these clocks, and its reply.
-func (l *lines) open(name string, settings serfagent.Settings, clocks serfagent.Clocks) {
-	mode := "keep"
-	if settings.IgnoreOld {
-		mode = "ignore"
-	}
-	var text []byte
+// clockLines returns a snapshot's lines with these clocks.
+func clockLines(clocks serfagent.Clocks) (text []byte) {
 	for _, line := range []struct {
 		word  string
 		clock uint64
@@ -88,20 +88,32 @@ func (l *lines) open(name string, settings serfagent.Settings, clocks serfagent.
 			text = append(strconv.AppendUint(append(text, line.word...), line.clock-1, 10), '\n')
 		}
 	}
+	return text
+}
+
+// writeOpen writes the call that begins a life on this text, and its reply with the agent's clocks.
+func (l *lines) writeOpen(name string, settings serfagent.Settings, text []byte, clocks serfagent.Clocks) {
+	mode := "keep"
+	if settings.IgnoreOld {
+		mode = "ignore"
+	}
+	if settings.KeepEvents {
+		mode += "+events"
+	}
 	l.line("open").bytes([]byte(name)).number(settings.EventBuffer).number(settings.QueryBuffer).number(settings.EventLimit)
 	l.number(settings.Responders).word(mode).number(settings.PerTime)
 	if defaults := serfagent.DefaultSettings(); settings.QueryLimit != defaults.QueryLimit || settings.ResponseLimit != defaults.ResponseLimit {
 		l.number(settings.QueryLimit).number(settings.ResponseLimit)
 	}
 	l.bytes(text)
-	l.line("opened").number(clocks.Member).number(clocks.Event).number(clocks.Query).end()
+	l.line("opened").number(clocks.Member).number(clocks.Event).number(clocks.Query).endReply()
 }
 
-// received writes the reply to a packet, or why the packet was refused.
-func (l *lines) received(packet []byte, outcome serfagent.Outcome, number uint64) {
+// writeReceived writes the reply to a packet, or why the packet was refused.
+func (l *lines) writeReceived(packet []byte, outcome serfagent.Outcome, number uint64) {
 	received := outcome.Received
 	if received == nil {
-		l.refused(outcome.Err, packet)
+		l.writeRefusal(outcome.Err, packet)
 		return
 	}
 	switch received.Kind {
@@ -122,11 +134,11 @@ func (l *lines) received(packet []byte, outcome serfagent.Outcome, number uint64
 		l.line("push-pull")
 	}
 	if received.Rebroadcast {
-		l.sent(packet)
+		l.writeSent(packet)
 	}
-	l.sent(received.Ack)
-	l.event(received.Event)
-	l.handed(received.Query, number)
+	l.writeSent(received.Ack)
+	l.writeEvent(received.Event)
+	l.writeHanded(received.Query, number)
 }
 
 // refusalWords are the words for why a call was refused.
@@ -136,9 +148,9 @@ var refusalWords = map[error]string{
 	serfagent.NotPending: "NoQuery",
 }
 
-// refused writes the reply to a call that was refused. If the call failed for another reason, such as memory or the
-// disk, it writes nothing and returns false.
-func (l *lines) refused(err error, packet []byte) bool {
+// writeRefusal writes the reply to a call that was refused. If the call failed for another reason, such as memory or
+// the disk, it writes nothing and returns false.
+func (l *lines) writeRefusal(err error, packet []byte) bool {
 	if word, ok := refusalWords[err]; ok {
 		l.line("refused").word(word)
 		return true

@@ -1,7 +1,8 @@
 // Package record writes the calls to a proved agent and its replies to a file, in the format of docs/SPEC.md.
 //
 // It writes after each call, so the record delays only the next call. If the record can't be written, the agent
-// continues without it.
+// continues without it. Each life begins with the text on which the agent was opened. So a reader can check whether
+// this text has everything that the previous life flushed (examples/attest).
 package record
 
 import (
@@ -14,11 +15,18 @@ import (
 	"kitchenrue.example/serfagent"
 )
 
-// heading begins each life and each file. A call before it without an end was cut off when the program ended.
-const heading = "# kitchenrue-agent record 1\n"
+// heading begins each life and each file. If the call above it has no end, the program ended during that call.
+const heading = title + "2\n"
 
-// continued is written before an open that begins no new life, after the file was rotated.
+// title begins the heading of each version of the format. In version 1, each life began with clock lines.
+const title = "# kitchenrue-agent record "
+
+// continued follows the heading of a file that a rotation started. The open call after it begins no new life.
 const continued = "# goes on\n"
+
+// compacting is written before a compaction. If the program ends before the call is written, the snapshot may have the
+// old text or the new one.
+const compacting = "# compacting\n"
 
 // Agent records the calls to a proved agent, in their order.
 type Agent struct {
@@ -29,61 +37,60 @@ type Agent struct {
 
 	// mu is held during a call and while its lines are written, so that the record has the calls in their order.
 	mu sync.Mutex
-	// file is nil after it could not be written.
+	// file is nil after a write to it has failed.
 	file  *File
 	lines lines
-	// pending are the queries that were handed out in this life, by the library's numbers. handedOut is how many there
-	// were.
+	// pending are the queries that were handed out in this life, by the library's numbers. handedOut counts all queries
+	// that were handed out in this life.
 	pending   map[uint64]*pendingQuery
 	handedOut uint64
-	// saved is the member clock in the last line that recorded it.
-	saved uint64
+	// savedClock is the member clock in the last line that recorded it.
+	savedClock uint64
 }
 
 // pendingQuery is a query that was handed out. number counts from 0. deadline is the last moment at which it can be
 // answered.
 type pendingQuery struct {
 	number, deadline uint64
-	answered         bool
+	isAnswered       bool
 }
 
 var _ serf.Agent = &Agent{}
 
-// Start begins a life of this agent in a record.
-func Start(agent serf.Agent, file *File, name string, settings serfagent.Settings, logger *log.Logger) (*Agent, error) {
-	a := &Agent{Agent: agent, name: name, settings: settings, log: logger, file: file, pending: map[uint64]*pendingQuery{}}
+// Start begins a life of this agent in a record, with the text on which the agent was opened.
+func Start(agent serf.Agent, file *File, name string, opening serf.Opening, logger *log.Logger) (*Agent, error) {
+	a := &Agent{Agent: agent, name: name, settings: opening.Settings, log: logger, file: file, pending: map[uint64]*pendingQuery{}}
 	if file.length > 0 {
-		// The life before may have ended within a line.
+		// The previous life may have ended within a line.
 		a.lines.text = append(a.lines.text, '\n')
 	}
-	if err := a.begin(heading); err != nil {
+	clocks, err := a.Agent.Clocks()
+	if err != nil {
 		return nil, err
 	}
-	_, err := file.Write(a.lines.text)
+	a.writeOpening(heading, opening.Text, clocks)
+	_, err = file.Write(a.lines.text)
+	// (the text may be large)
+	a.lines.text = nil
 	return a, err
 }
 
-// begin writes the call that opens the agent with its current clocks.
-func (a *Agent) begin(comment string) error {
-	clocks, err := a.Agent.Clocks()
-	if err != nil {
-		return err
-	}
+// writeOpening writes the call that opens the agent on a text, with these clocks.
+func (a *Agent) writeOpening(comment string, text []byte, clocks serfagent.Clocks) {
 	a.lines.text = append(a.lines.text, comment...)
-	a.lines.moment(time.Now().UnixNano())
-	a.lines.open(a.name, a.settings, clocks)
-	return nil
+	a.lines.writeMoment(time.Now().UnixNano())
+	a.lines.writeOpen(a.name, a.settings, text, clocks)
 }
 
-// write writes the lines of calls, after their time. An error ends the record, not the agent.
-func (a *Agent) write(lines func(*lines)) {
+// write writes the time, and then the lines of calls. An error ends the record, but not the agent.
+func (a *Agent) write(writeLines func(*lines)) {
 	if a.file == nil {
 		return
 	}
 	a.lines.text = a.lines.text[:0]
-	a.lines.moment(time.Now().UnixNano())
-	moment := len(a.lines.text)
-	if lines(&a.lines); len(a.lines.text) == moment {
+	a.lines.writeMoment(time.Now().UnixNano())
+	linesStart := len(a.lines.text)
+	if writeLines(&a.lines); len(a.lines.text) == linesStart {
 		return
 	}
 	_, err := a.file.Write(a.lines.text)
@@ -102,16 +109,18 @@ func (a *Agent) rotate() error {
 	if err := a.file.Rotate(); err != nil {
 		return err
 	}
-	a.lines.text = a.lines.text[:0]
-	if err := a.begin(heading + continued); err != nil {
+	clocks, err := a.Agent.Clocks()
+	if err != nil {
 		return err
 	}
-	_, err := a.file.Write(a.lines.text)
+	a.lines.text = a.lines.text[:0]
+	a.writeOpening(heading+continued, clockLines(clocks), clocks)
+	_, err = a.file.Write(a.lines.text)
 	return err
 }
 
-// notDone notes that a call had no effect, because the agent's own file failed or memory ran out.
-func (l *lines) notDone(err error) {
+// writeNotDone writes a comment: the call had no effect, because the agent's own file failed or memory ran out.
+func (l *lines) writeNotDone(err error) {
 	l.text = append(l.text, "# not done: "...)
 	for _, b := range []byte(err.Error()) {
 		if b < ' ' {
@@ -122,8 +131,8 @@ func (l *lines) notDone(err error) {
 	l.text = append(l.text, '\n')
 }
 
-// numberOf numbers a query that is handed out.
-func (a *Agent) numberOf(query *serfagent.PendingQuery) uint64 {
+// assignNumber numbers a query that is handed out.
+func (a *Agent) assignNumber(query *serfagent.PendingQuery) uint64 {
 	if query == nil {
 		return 0
 	}
@@ -141,40 +150,40 @@ func (a *Agent) TakeAll(now uint64, packets []serf.Packet, firings []serf.Firing
 	a.write(func(l *lines) {
 		for i, outcome := range outcomes {
 			if i < len(packets) {
-				a.delivered(l, now, packets[i], outcome)
+				a.writeDelivery(l, now, packets[i], outcome)
 			} else {
-				a.fired(l, firings[i-len(packets)], outcome)
+				a.writeFiring(l, firings[i-len(packets)], outcome)
 			}
 		}
 		if err != nil {
-			l.notDone(err)
+			l.writeNotDone(err)
 		}
 	})
 	return outcomes, err
 }
 
-// delivered writes a packet and its result. The format has no tags, so a query whose tag filters this node passes is
-// written without them.
-func (a *Agent) delivered(l *lines, now uint64, packet serf.Packet, outcome serfagent.Outcome) {
+// writeDelivery writes a packet and its result. The format has no tags. If a query has tag filters and this node passes
+// them, the query is written without these filters.
+func (a *Agent) writeDelivery(l *lines, now uint64, packet serf.Packet, outcome serfagent.Outcome) {
 	var number uint64
 	if outcome.Received != nil {
-		number = a.numberOf(outcome.Received.Query)
+		number = a.assignNumber(outcome.Received.Query)
 	}
 	data := packet.Data
 	if packet.TagsPass {
 		data = serf.WithoutTagFilters(data)
 	}
 	l.line("deliver").bytes(data).number(now)
-	l.received(data, outcome, number)
-	l.end()
+	l.writeReceived(data, outcome, number)
+	l.endReply()
 }
 
-// fired writes a firing and its result.
-func (a *Agent) fired(l *lines, firing serf.Firing, outcome serfagent.Outcome) {
+// writeFiring writes a firing and its result.
+func (a *Agent) writeFiring(l *lines, firing serf.Firing, outcome serfagent.Outcome) {
 	l.line("fire").bytes(firing.Name).bytes(firing.Payload).boolean(firing.Coalesce)
-	a.reply(l, outcome.Err, nil, func() {
-		l.line("fired").number(outcome.Fired.Event.Time).sent(outcome.Fired.Packet)
-		l.event(outcome.Fired.Event)
+	a.writeReply(l, outcome.Err, nil, func() {
+		l.line("fired").number(outcome.Fired.Event.Time).writeSent(outcome.Fired.Packet)
+		l.writeEvent(outcome.Fired.Event)
 	})
 }
 
@@ -189,28 +198,28 @@ func (a *Agent) Merge(packet []byte, isJoin bool) ([]*serfagent.Event, error) {
 	}
 	a.write(func(l *lines) {
 		l.line("merge").bytes(packet).word(mode)
-		a.reply(l, err, packet, func() {
+		a.writeReply(l, err, packet, func() {
 			l.line("merged")
 			for _, event := range events {
-				l.event(event)
+				l.writeEvent(event)
 			}
 		})
 	})
 	return events, err
 }
 
-// reply writes the reply to a call that was done, or why it was refused.
-func (a *Agent) reply(l *lines, err error, packet []byte, done func()) {
+// writeReply writes the reply to a call that succeeded, or the reason why it was refused.
+func (a *Agent) writeReply(l *lines, err error, packet []byte, writeResult func()) {
 	switch {
 	case err == nil:
-		done()
-	case l.refused(err, packet):
+		writeResult()
+	case l.writeRefusal(err, packet):
 	default:
 		l.line("")
-		l.notDone(err)
+		l.writeNotDone(err)
 		return
 	}
-	l.end()
+	l.endReply()
 }
 
 // LocalState records the state that is sent.
@@ -220,7 +229,7 @@ func (a *Agent) LocalState(statuses []serfagent.Status, left []string) ([]byte, 
 	packet, err := a.Agent.LocalState(statuses, left)
 	a.write(func(l *lines) {
 		l.line("state")
-		a.reply(l, err, nil, func() { l.line("state").sent(packet) })
+		a.writeReply(l, err, nil, func() { l.line("state").writeSent(packet) })
 	})
 	return packet, err
 }
@@ -244,14 +253,14 @@ func (a *Agent) Query(now uint64, id uint32, name, payload []byte, params serfag
 				l.bytes(filter)
 			}
 		}
-		a.reply(l, err, nil, func() {
+		a.writeReply(l, err, nil, func() {
 			packet := query.Packet
 			if params.TagsPass {
 				packet = serf.WithoutTagFilters(packet)
 			}
-			l.line("queried").number(query.Time).sent(packet)
-			l.sent(query.Ack)
-			l.handed(query.Query, a.numberOf(query.Query))
+			l.line("queried").number(query.Time).writeSent(packet)
+			l.writeSent(query.Ack)
+			l.writeHanded(query.Query, a.assignNumber(query.Query))
 		})
 	})
 	return query, err
@@ -264,14 +273,14 @@ func (a *Agent) Respond(now, number uint64, payload []byte) ([]byte, error) {
 	packet, err := a.Agent.Respond(now, number, payload)
 	if query, ok := a.pending[number]; ok {
 		reason := err
-		if err == serfagent.NotPending && !query.answered && now > query.deadline {
+		if err == serfagent.NotPending && !query.isAnswered && now > query.deadline {
 			// The library has forgotten the query, because its deadline passed.
 			reason = serfagent.PastDeadline
 		}
-		query.answered = query.answered || err == nil
+		query.isAnswered = query.isAnswered || err == nil
 		a.write(func(l *lines) {
 			l.line("respond").number(query.number).number(now).bytes(payload)
-			a.reply(l, reason, nil, func() { l.line("replied").sent(packet) })
+			a.writeReply(l, reason, nil, func() { l.line("replied").writeSent(packet) })
 		})
 	}
 	return packet, err
@@ -292,7 +301,7 @@ func (a *Agent) CloseDue(now uint64) ([]*serfagent.Closed, error) {
 	closed, err := a.Agent.CloseDue(now)
 	if len(closed) > 0 {
 		a.write(func(l *lines) {
-			l.line("close").number(now).line("closed").number(uint64(len(closed))).end()
+			l.line("close").number(now).line("closed").number(uint64(len(closed))).endReply()
 		})
 	}
 	return closed, err
@@ -303,10 +312,10 @@ func clockState(time uint64) []byte {
 	return binary.BigEndian.AppendUint64([]byte("\x02\x81\xa5LTime\xcf"), time+1)
 }
 
-// observed writes that the member clock was advanced above a time. The format has no call for that, so it writes a
+// writeObserved writes that the member clock was advanced above a time. The format has no call for that, so it writes a
 // merge.
-func (l *lines) observed(time uint64) {
-	l.line("merge").bytes(clockState(time)).word("sync").line("merged").end()
+func (l *lines) writeObserved(time uint64) {
+	l.line("merge").bytes(clockState(time)).word("sync").line("merged").endReply()
 }
 
 // ObserveMember records a merge if the time advances this node's clock.
@@ -316,7 +325,7 @@ func (a *Agent) ObserveMember(time uint64) error {
 	before, _ := a.Agent.Clocks()
 	err := a.Agent.ObserveMember(time)
 	if err == nil && time >= before.Member {
-		a.write(func(l *lines) { l.observed(time) })
+		a.write(func(l *lines) { l.writeObserved(time) })
 	}
 	return err
 }
@@ -327,10 +336,10 @@ func (a *Agent) NextMemberTime() (uint64, error) {
 	defer a.mu.Unlock()
 	time, err := a.Agent.NextMemberTime()
 	if err == nil {
-		a.saved = time + 1
+		a.savedClock = time + 1
 		a.write(func(l *lines) {
-			l.observed(time)
-			l.line("save").line("saved").end()
+			l.writeObserved(time)
+			l.line("save").line("saved").endReply()
 		})
 	}
 	return time, err
@@ -341,21 +350,23 @@ func (a *Agent) SaveMemberClock() error {
 	a.mu.Lock()
 	defer a.mu.Unlock()
 	err := a.Agent.SaveMemberClock()
-	if clocks, _ := a.Agent.Clocks(); err == nil && clocks.Member != a.saved {
-		a.saved = clocks.Member
-		a.write(func(l *lines) { l.line("save").line("saved").end() })
+	if clocks, _ := a.Agent.Clocks(); err == nil && clocks.Member != a.savedClock {
+		a.savedClock = clocks.Member
+		a.write(func(l *lines) { l.line("save").line("saved").endReply() })
 	}
 	return err
 }
 
-// CompactWith records a compaction.
+// CompactWith records that a compaction begins, and then the compaction, or why it wasn't done.
 func (a *Agent) CompactWith(text []byte) error {
 	a.mu.Lock()
 	defer a.mu.Unlock()
+	a.write(func(l *lines) { l.text = append(l.text, compacting...) })
 	err := a.Agent.CompactWith(text)
-	if err == nil {
-		a.write(func(l *lines) { l.line("compact").line("compacted").end() })
-	}
+	a.write(func(l *lines) {
+		l.line("compact")
+		a.writeReply(l, err, nil, func() { l.line("compacted") })
+	})
 	return err
 }
 

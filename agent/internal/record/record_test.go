@@ -19,35 +19,41 @@ import (
 	"kitchenrue.example/serfagent"
 )
 
-// openRecorded opens a proved agent whose calls are recorded in NAME.record.
+// openRecorded opens a proved agent that ignores old events, and whose calls are recorded in NAME.record.
 func openRecorded(t *testing.T, name, folder string, limit int64, logger *log.Logger) *Agent {
 	t.Helper()
 	settings := serfagent.DefaultSettings()
 	settings.IgnoreOld = true
-	proved, err := serfagent.Open(name, filepath.Join(folder, name), settings)
+	return openRecordedWith(t, name, folder, limit, settings, logger)
+}
+
+// openRecordedWith is openRecorded with other settings.
+func openRecordedWith(t *testing.T, name, folder string, limit int64, settings serfagent.Settings, logger *log.Logger) *Agent {
+	t.Helper()
+	proved, text, err := serfagent.OpenWithText(name, filepath.Join(folder, name), settings)
 	testkit.Must(t, err)
 	file, err := Open(filepath.Join(folder, name+".record"), limit)
 	testkit.Must(t, err)
-	agent, err := Start(serf.Proved(proved), file, name, settings, logger)
+	agent, err := Start(serf.Proved(proved), file, name, serf.Opening{Settings: settings, Text: text}, logger)
 	testkit.Must(t, err)
 	t.Cleanup(func() { agent.Close() })
 	return agent
 }
 
-// An open call has the limits of packets only if they aren't Serf's.
+// The open call in a record has the limits of packets only if they differ from Serf's.
 func TestLimitsOfPackets(t *testing.T) {
 	for limits, want := range map[[2]uint64]string{{1024, 1024}: "1024 -", {2000, 1024}: "1024 2000 1024 -", {1024, 300}: "1024 1024 300 -"} {
 		settings, l := serfagent.DefaultSettings(), &lines{}
 		settings.QueryLimit, settings.ResponseLimit = limits[0], limits[1]
-		l.open("a", settings, serfagent.Clocks{Member: 1, Event: 1, Query: 1})
+		l.writeOpen("a", settings, nil, serfagent.Clocks{Member: 1, Event: 1, Query: 1})
 		if found, want := string(l.text), "open 61 512 512 512 1024 keep "+want+"\nopened 1 1 1\n\n"; found != want {
 			t.Errorf("%v: %q", limits, found)
 		}
 	}
 }
 
-// fire fires an event, and returns its packet.
-func fire(a *Agent, name, payload string, coalesce bool) ([]byte, error) {
+// fireEvent fires an event, and returns its packet.
+func fireEvent(a *Agent, name, payload string, coalesce bool) ([]byte, error) {
 	outcomes, err := a.TakeAll(0, nil, []serf.Firing{{Name: []byte(name), Payload: []byte(payload), Coalesce: coalesce}})
 	if err != nil {
 		return nil, err
@@ -58,8 +64,8 @@ func fire(a *Agent, name, payload string, coalesce bool) ([]byte, error) {
 	return outcomes[0].Fired.Packet, nil
 }
 
-// receive gives packets to an agent.
-func receive(a *Agent, now uint64, packets ...[]byte) ([]serfagent.Outcome, error) {
+// receivePackets passes packets to an agent, and returns their outcomes.
+func receivePackets(a *Agent, now uint64, packets ...[]byte) ([]serfagent.Outcome, error) {
 	var list []serf.Packet
 	for _, packet := range packets {
 		list = append(list, serf.Packet{Data: packet})
@@ -69,8 +75,8 @@ func receive(a *Agent, now uint64, packets ...[]byte) ([]serfagent.Outcome, erro
 
 var noLog = log.New(io.Discard, "", 0)
 
-// recorded returns the text of a record without its times.
-func recorded(t *testing.T, path string) string {
+// readRecord returns the text of a record without its times.
+func readRecord(t *testing.T, path string) string {
 	t.Helper()
 	text, err := os.ReadFile(path)
 	testkit.Must(t, err)
@@ -80,11 +86,11 @@ func recorded(t *testing.T, path string) string {
 func TestCallsAndReplies(t *testing.T) {
 	folder := t.TempDir()
 	a, b := openRecorded(t, "a", folder, 1<<20, noLog), openRecorded(t, "b", folder, 1<<20, noLog)
-	fired, err := fire(a, "deploy", "v1", false)
+	fired, err := fireEvent(a, "deploy", "v1", false)
 	testkit.Must(t, err)
 	query, err := a.Query(5, 7, []byte("load"), nil, serfagent.QueryParams{Timeout: 1000, WantAck: true})
 	testkit.Must(t, err)
-	outcomes, err := receive(b, 9, fired, fired, query.Packet, []byte{}, []byte("\x03\x81\xa4Name\xa1"), []byte{9})
+	outcomes, err := receivePackets(b, 9, fired, fired, query.Packet, []byte{}, []byte("\x03\x81\xa4Name\xa1"), []byte{9})
 	if err != nil || len(outcomes) != 6 {
 		t.Fatal(outcomes, err)
 	}
@@ -96,10 +102,10 @@ func TestCallsAndReplies(t *testing.T) {
 	if _, err := b.Respond(10, 99, nil); err != serfagent.NotPending {
 		t.Error(err)
 	}
-	if _, err := receive(a, 20, outcomes[2].Received.Ack, reply, reply); err != nil {
+	if _, err := receivePackets(a, 20, outcomes[2].Received.Ack, reply, reply); err != nil {
 		t.Error(err)
 	}
-	if _, err := fire(a, strings.Repeat("x", 600), "", true); err != serfagent.TooLarge {
+	if _, err := fireEvent(a, strings.Repeat("x", 600), "", true); err != serfagent.TooLarge {
 		t.Error(err)
 	}
 	for i := uint64(0); i < 3; i++ {
@@ -108,23 +114,23 @@ func TestCallsAndReplies(t *testing.T) {
 		}
 	}
 	hexed := func(data []byte) string { return fmt.Sprintf("%x", data) }
-	want := "# kitchenrue-agent record 1\nopen 61 512 512 512 1024 ignore 1024 -\nopened 1 1 1\n\n" +
+	want := "# kitchenrue-agent record 2\nopen 61 512 512 512 1024 ignore 1024 -\nopened 1 1 1\n\n" +
 		"fire 6465706c6f79 7631 0\nfired 1\nsent " + hexed(fired) + "\nevent 1 6465706c6f79 7631 0\n\n" +
 		"query 5 7 6c6f6164 - 1000 1\nqueried 1\nsent " + hexed(query.Packet) + "\nsent " + hexed(query.Ack) + "\nhanded 0 1 7 6c6f6164 -\n\n" +
 		"deliver " + hexed(outcomes[2].Received.Ack) + " 20\nack\ncounted ack 1 7 62\n\n" +
 		"deliver " + hexed(reply) + " 20\nresponse\ncounted response 1 7 62 31\n\n" +
 		"deliver " + hexed(reply) + " 20\nignored ResponseTwice\n\n" +
 		"fire " + strings.Repeat("78", 600) + " - 1\nrefused TooLarge\n\nclose 1100\nclosed 1\n\n"
-	if found := recorded(t, filepath.Join(folder, "a.record")); found != want {
+	if found := readRecord(t, filepath.Join(folder, "a.record")); found != want {
 		t.Errorf("%s\nand not\n%s", found, want)
 	}
-	want = "# kitchenrue-agent record 1\nopen 62 512 512 512 1024 ignore 1024 -\nopened 1 1 1\n\n" +
+	want = "# kitchenrue-agent record 2\nopen 62 512 512 512 1024 ignore 1024 -\nopened 1 1 1\n\n" +
 		"deliver " + hexed(fired) + " 9\nnew\nsent " + hexed(fired) + "\nevent 1 6465706c6f79 7631 0\n\n" +
 		"deliver " + hexed(fired) + " 9\nignored Seen\n\n" +
 		"deliver " + hexed(query.Packet) + " 9\nquery\nsent " + hexed(query.Packet) + "\nsent " + hexed(outcomes[2].Received.Ack) + "\nhanded 0 1 7 6c6f6164 -\n\n" +
 		"deliver - 9\nrefused Wire Empty\n\ndeliver 0381a44e616d65a1 9\nrefused Wire Truncated 7\n\ndeliver 09 9\nforeign 9\n\n" +
 		"respond 0 10 31\nreplied\nsent " + hexed(reply) + "\n\nrespond 0 10 -\nrefused NoQuery\n\n"
-	if found := recorded(t, filepath.Join(folder, "b.record")); found != want {
+	if found := readRecord(t, filepath.Join(folder, "b.record")); found != want {
 		t.Errorf("%s\nand not\n%s", found, want)
 	}
 }
@@ -158,7 +164,7 @@ func TestForgottenQueries(t *testing.T) {
 		}
 	}
 	want := fmt.Sprintf("respond 0 6 -\nreplied\nsent %x\n\nclose 16\nclosed 2\n\nrespond 0 16 -\nrefused NoQuery\n\nrespond 1 16 -\nrefused PastDeadline\n\n", reply)
-	if found := recorded(t, filepath.Join(folder, "a.record")); !strings.HasSuffix(found, want) {
+	if found := readRecord(t, filepath.Join(folder, "a.record")); !strings.HasSuffix(found, want) {
 		t.Errorf("%s\nand not\n%s", found, want)
 	}
 }
@@ -166,7 +172,7 @@ func TestForgottenQueries(t *testing.T) {
 func TestStatesClocksAndLives(t *testing.T) {
 	folder := t.TempDir()
 	a, b := openRecorded(t, "a", folder, 1<<20, noLog), openRecorded(t, "b", folder, 1<<20, noLog)
-	if _, err := fire(a, "x", "", false); err != nil {
+	if _, err := fireEvent(a, "x", "", false); err != nil {
 		t.Fatal(err)
 	}
 	state, err := a.LocalState([]serfagent.Status{{Name: "a", Time: 3}}, nil)
@@ -188,15 +194,15 @@ func TestStatesClocksAndLives(t *testing.T) {
 	b.Close()
 	openRecorded(t, "b", folder, 1<<20, noLog)
 	observed := func(time uint64) string { return fmt.Sprintf("merge 0281a54c54696d65cf%016x sync\nmerged\n\n", time+1) }
-	want := "# kitchenrue-agent record 1\nopen 62 512 512 512 1024 ignore 1024 -\nopened 1 1 1\n\n" +
+	want := "# kitchenrue-agent record 2\nopen 62 512 512 512 1024 ignore 1024 -\nopened 1 1 1\n\n" +
 		fmt.Sprintf("merge %x sync\nmerged\nevent 1 78 - 0\n\n", state) + "merge 0380 join\nrefused NotPushPull\n\n" +
-		observed(6) + "save\nsaved\n\n" + observed(7) + "save\nsaved\n\ncompact\ncompacted\n\n" +
-		"\n# kitchenrue-agent record 1\n" +
+		observed(6) + "save\nsaved\n\n" + observed(7) + "save\nsaved\n\n# compacting\ncompact\ncompacted\n\n" +
+		"\n# kitchenrue-agent record 2\n" +
 		fmt.Sprintf("open 62 512 512 512 1024 ignore 1024 %x\nopened 8 2 1\n\n", "clock: 7\nevent-clock: 1\n")
-	if found := recorded(t, filepath.Join(folder, "b.record")); found != want {
+	if found := readRecord(t, filepath.Join(folder, "b.record")); found != want {
 		t.Errorf("%s\nand not\n%s", found, want)
 	}
-	if found := recorded(t, filepath.Join(folder, "a.record")); !strings.Contains(found, fmt.Sprintf("state\nstate\nsent %x\n\n", state)) {
+	if found := readRecord(t, filepath.Join(folder, "a.record")); !strings.Contains(found, fmt.Sprintf("state\nstate\nsent %x\n\n", state)) {
 		t.Error(found)
 	}
 }
@@ -205,7 +211,7 @@ func TestRotation(t *testing.T) {
 	folder := t.TempDir()
 	a := openRecorded(t, "a", folder, 1<<12, noLog)
 	for i := 0; i < 1000; i++ {
-		if _, err := fire(a, "x", "y", false); err != nil {
+		if _, err := fireEvent(a, "x", "y", false); err != nil {
 			t.Fatal(err)
 		}
 	}
@@ -216,9 +222,9 @@ func TestRotation(t *testing.T) {
 		if number > 0 {
 			name = fmt.Sprint(path, ".", number)
 		}
-		text := recorded(t, name)
+		text := readRecord(t, name)
 		var first uint64
-		head := "# kitchenrue-agent record 1\n# goes on\nopen 61 512 512 512 1024 ignore 1024 "
+		head := "# kitchenrue-agent record 2\n# goes on\nopen 61 512 512 512 1024 ignore 1024 "
 		if _, err := fmt.Sscanf(text[strings.Index(text, "opened"):], "opened 1 %d 1", &first); err != nil || !strings.HasPrefix(text, head) {
 			t.Fatalf("%s: %v %.200s", name, err, text)
 		}
@@ -268,7 +274,7 @@ func TestFullDisk(t *testing.T) {
 	a.file.file.Close()
 	a.file.file = full
 	for i := 0; i < 3; i++ {
-		if _, err := fire(a, "x", "", false); err != nil {
+		if _, err := fireEvent(a, "x", "", false); err != nil {
 			t.Fatal(err)
 		}
 	}

@@ -23,7 +23,7 @@ func TestFiringsOfABurstKeepTheirOrder(t *testing.T) {
 		packet := outcomes[i+1].Fired.Packet
 		want += fmt.Sprintf("fire %x - 0\nfired %d\nsent %x\nevent %d %x - 0\n\n", firing.Name, i+1, packet, i+1, firing.Name)
 	}
-	if found := recorded(t, filepath.Join(folder, "a.record")); !strings.HasSuffix(found, want) {
+	if found := readRecord(t, filepath.Join(folder, "a.record")); !strings.HasSuffix(found, want) {
 		t.Errorf("%s\nand not\n%s", found, want)
 	}
 }
@@ -42,12 +42,26 @@ func TestRecordedTagFilters(t *testing.T) {
 		if passes {
 			want = serf.WithoutTagFilters(query.Packet)
 		}
-		text := recorded(t, filepath.Join(folder, "b.record"))
+		text := readRecord(t, filepath.Join(folder, "b.record"))
 		if !strings.Contains(text, fmt.Sprintf("deliver %x 9\n", want)) {
 			t.Errorf("%v: %s", passes, text)
 		}
 		if passes && strings.Contains(text, fmt.Sprintf("%x", "role")) {
 			t.Error("the tag filter is recorded, although the node passes it: ", text)
 		}
+	}
+}
+
+// A life begins with the whole text on which the agent was opened, and with the mode that says whether it keeps events.
+func TestLifeBeginsWithItsText(t *testing.T) {
+	folder := t.TempDir()
+	settings := serfagent.DefaultSettings()
+	settings.KeepEvents = true
+	text := "alive: b 127.0.0.1:7946\nevent-clock: 1\n#event 1 78 -\nclock"
+	testkit.Write(t, filepath.Join(folder, "a"), text)
+	openRecordedWith(t, "a", folder, 1<<20, settings, noLog)
+	want := fmt.Sprintf("# kitchenrue-agent record 2\nopen 61 512 512 512 1024 keep+events 1024 %x\nopened 1 2 1\n\n", text)
+	if found := readRecord(t, filepath.Join(folder, "a.record")); found != want {
+		t.Errorf("%s\nand not\n%s", found, want)
 	}
 }

@@ -12,14 +12,15 @@ import (
 	"time"
 )
 
-// askTimeout is the maximum time for a whole question, and maxAnswer the maximum size in bytes of its answer.
+// askTimeout is the maximum time for connecting, and also for all requests together. maxAnswer is the maximum size of
+// an answer in bytes.
 const (
 	askTimeout = 10 * time.Second
 	maxAnswer  = 64 << 20
 )
 
-// AskMembers asks the agent at an address for its members, and writes one line for each of them to out, as the command
-// line of Serf does. token is sent if it isn't empty.
+// AskMembers requests the members from the agent at an address, and writes one line for each of them to out, as Serf's
+// command line does. It sends token if it isn't empty.
 func AskMembers(address, token string, out io.Writer) error {
 	conn, err := net.DialTimeout("tcp", address, askTimeout)
 	if err != nil {
@@ -29,44 +30,44 @@ func AskMembers(address, token string, out io.Writer) error {
 	if err := conn.SetDeadline(time.Now().Add(askTimeout)); err != nil {
 		return err
 	}
-	a := &asker{conn: conn, in: newReader(conn)}
-	if err := a.ask("handshake", handshakeBody{1}); err != nil {
+	rpc := &rpcClient{conn: conn, reader: newReader(conn)}
+	if err := rpc.call("handshake", handshakeBody{1}); err != nil {
 		return err
 	}
 	if token != "" {
-		if err := a.ask("auth", authBody{token}); err != nil {
+		if err := rpc.call("auth", authBody{token}); err != nil {
 			return err
 		}
 	}
-	if err := a.ask("members"); err != nil {
+	if err := rpc.call("members"); err != nil {
 		return err
 	}
 	var answer membersAnswer
-	if err := a.in.decode(maxAnswer, &answer); err != nil {
+	if err := rpc.reader.decode(maxAnswer, &answer); err != nil {
 		return fmt.Errorf("the agent's answer can't be read: %w", err)
 	}
 	return writeMembers(answer.Members, out)
 }
 
-// asker is a client that asks one question after another.
-type asker struct {
-	conn net.Conn
-	in   *reader
-	seq  uint64
+// rpcClient is a client that sends one request at a time and reads its answer.
+type rpcClient struct {
+	conn   net.Conn
+	reader *reader
+	seq    uint64
 }
 
-// ask sends a request and reads the header of its answer. An error of the agent is returned as an error.
-func (a *asker) ask(command string, body ...interface{}) error {
-	a.seq++
-	request, err := encode(append([]interface{}{requestHeader{command, a.seq}}, body...)...)
+// call sends a request and reads the header of its answer. If the header has an error, call returns it.
+func (c *rpcClient) call(command string, body ...interface{}) error {
+	c.seq++
+	request, err := encode(append([]interface{}{requestHeader{command, c.seq}}, body...)...)
 	if err != nil {
 		return err
 	}
-	if _, err := a.conn.Write(request); err != nil {
+	if _, err := c.conn.Write(request); err != nil {
 		return err
 	}
 	var header answerHeader
-	if err := a.in.decode(maxHeader, &header); err != nil {
+	if err := c.reader.decode(maxHeader, &header); err != nil {
 		return fmt.Errorf("the agent's answer to %s can't be read: %w", command, err)
 	}
 	if header.Error != "" {
@@ -87,15 +88,15 @@ func writeMembers(members []member, out io.Writer) error {
 		sort.Strings(tags)
 		fields := []string{m.Name, net.JoinHostPort(m.Addr.String(), strconv.Itoa(int(m.Port))), m.Status, strings.Join(tags, ",")}
 		for i, field := range fields {
-			fields[i] = plain(field)
+			fields[i] = replaceControl(field)
 		}
 		fmt.Fprintln(table, strings.TrimRight(strings.Join(fields, "\t"), "\t"))
 	}
 	return table.Flush()
 }
 
-// plain replaces control characters, because names and tags come from the network.
-func plain(text string) string {
+// replaceControl replaces each control character by a question mark, because names and tags come from the network.
+func replaceControl(text string) string {
 	return strings.Map(func(r rune) rune {
 		if r < ' ' || r == 0x7f {
 			return '?'

@@ -7,10 +7,10 @@ import (
 	"kitchenrue.example/serf"
 )
 
-// The members are printed by name, without control characters. A wrong token and an agent that isn't there are errors.
+// The members are printed by name, without control characters. A wrong token is an error, and so is an agent that isn't running.
 func TestAskMembers(t *testing.T) {
-	s, f, _ := start(t, "token")
-	f.more = []serf.Member{{Name: "a\n\x1b[2J", Addr: []byte{10, 0, 0, 1}, Port: 1, Tags: map[string]string{"x": "1", "b": "2"}, Status: serf.StatusLeft}}
+	s, f, _ := startServer(t, "token")
+	f.moreMembers = []serf.Member{{Name: "a\n\x1b[2J", Addr: []byte{10, 0, 0, 1}, Port: 1, Tags: map[string]string{"x": "1", "b": "2"}, Status: serf.StatusLeft}}
 	var out strings.Builder
 	if err := AskMembers(s.Addr().String(), "token", &out); err != nil {
 		t.Error(err)

@@ -13,18 +13,18 @@ import (
 	"kitchenrue.example/serf"
 )
 
-// timeouts are how long a client may take: to finish the handshake, to send the rest of a request, to accept what is
-// sent to it, and to accept what is sent at the end. linger is the time between the last answer and the end of the
-// connection: Serf's own client may mistake an end right after an answer for the answer.
-type timeouts struct{ handshake, request, send, final, linger time.Duration }
+// timeouts limits how long a client may take to finish the handshake, to send the rest of a request, to accept what is
+// sent to it, and to accept the final frames when the connection ends. lastRead is the time between the last answer and
+// the end of the connection. Without it, Serf's own client may mistake the end of the connection for the answer.
+type timeouts struct{ handshake, request, send, final, lastRead time.Duration }
 
 var defaultTimeouts = timeouts{10 * time.Second, 10 * time.Second, 10 * time.Second, time.Second, 200 * time.Millisecond}
 
-// maxWrite is how many bytes of frames are written with one call. A longer frame is written alone.
+// maxWrite is the maximum number of bytes of frames that are written with one call. A longer frame is written alone.
 const maxWrite = 32 << 10
 
-// Limits for each client: frames and bytes that wait to be written; streams, monitors and queries together; and queries
-// in its streams that it has not answered.
+// Limits for each client: the frames and the bytes that wait to be written; the streams, monitors and queries together;
+// and the queries in its streams that it has not answered.
 const (
 	maxFrames     = 4096
 	maxBytes      = 8 << 20
@@ -34,30 +34,32 @@ const (
 
 var errTooSlow = errors.New("too much is queued for it")
 
-// client is a connection. One goroutine reads requests, and one writes the frames that wait.
+// client is a client's connection. One goroutine reads its requests, and another one writes the frames that wait.
 type client struct {
 	server      *Server
 	conn        net.Conn
-	in          *reader
+	reader      *reader
 	ctx         context.Context
 	cancel      context.CancelFunc
 	timeouts    timeouts
 	connectedAt time.Time
 
-	// hasHandshake and isAuthenticated: the client has done both. readDeadline is the connection's current
-	// deadline for reads. Only the reader uses these fields.
+	// hasHandshake is true after the handshake, and isAuthenticated after the client has authenticated. readDeadline is
+	// the connection's current deadline for reads, and header is the header of the last request. Only the goroutine
+	// that reads uses these fields.
 	hasHandshake, isAuthenticated bool
 	readDeadline                  time.Time
+	header                        requestHeader
 
 	mu      sync.Mutex
 	changed *sync.Cond
-	// isBusy is true while a request of the client runs. lastRequest is when the latest one began.
+	// isBusy is true while a request of the client runs. lastRequest is the time at which the latest request began.
 	isBusy      bool
 	lastRequest time.Time
 	frames      [][]byte
 	bytes       int
-	// isWriting is true while a goroutine writes, with writeDeadline as the connection's deadline. When isClosing is
-	// true, no frames are added. When isClosed is true, nothing more is written.
+	// isWriting is true while a goroutine writes, with writeDeadline as the connection's deadline. If isClosing is
+	// true, no frames are added. If isClosed is true, nothing more is written.
 	isWriting, isClosing, isClosed bool
 	writeDeadline                  time.Time
 	streams                        map[uint64]handlers.Filters
@@ -70,7 +72,7 @@ func newClient(s *Server, conn net.Conn) *client {
 		server: s, conn: conn, isAuthenticated: s.auth == "", timeouts: s.timeouts, connectedAt: time.Now(), lastRequest: time.Now(),
 		streams: map[uint64]handlers.Filters{}, subscriptions: map[uint64]*subscription{}, unanswered: map[uint64]*serf.Query{},
 	}
-	c.in = newReader(deadlineReader{c})
+	c.reader = newReader(deadlineReader{c})
 	c.ctx, c.cancel = context.WithCancel(s.ctx)
 	c.changed = sync.NewCond(&c.mu)
 	return c
@@ -80,12 +82,12 @@ func newClient(s *Server, conn net.Conn) *client {
 func (c *client) readRequests() {
 	defer c.closeAfterQueued()
 	for {
-		err := c.request()
+		err := c.runRequest()
 		if err == nil {
 			continue
 		}
 		if errors.Is(err, errCloseAfterAnswer) {
-			c.linger()
+			c.waitForLastRead()
 		}
 		if !errors.Is(err, io.EOF) && !errors.Is(err, net.ErrClosed) && c.ctx.Err() == nil {
 			c.server.log.Printf("[WARN] agent.ipc: disconnected %v: %v", c.conn.RemoteAddr(), err)
@@ -94,9 +96,9 @@ func (c *client) readRequests() {
 	}
 }
 
-// linger waits until a client has had time to read why it is disconnected. Meanwhile it reads nothing from it.
-func (c *client) linger() {
-	timer := time.NewTimer(c.timeouts.linger)
+// waitForLastRead waits so that a client can read why it is disconnected. Meanwhile, the agent reads nothing from the client.
+func (c *client) waitForLastRead() {
+	timer := time.NewTimer(c.timeouts.lastRead)
 	defer timer.Stop()
 	select {
 	case <-timer.C:
@@ -104,11 +106,12 @@ func (c *client) linger() {
 	}
 }
 
-// errCloseAfterAnswer disconnects the client after the answer that waits. It wraps io.EOF, so that it isn't logged.
+// errCloseAfterAnswer disconnects the client after the queued answer was sent. It wraps io.EOF, so that it isn't
+// logged.
 var errCloseAfterAnswer = fmt.Errorf("the client may not continue: %w", io.EOF)
 
-// deadlineReader reads from the client with deadlines: for the handshake, and for the rest of a request that has begun.
-// Most requests arrive whole.
+// deadlineReader reads from the client with two deadlines: one for the handshake, and one for the rest of a request
+// that has begun. Most requests arrive whole and need no second read.
 type deadlineReader struct{ *client }
 
 func (r deadlineReader) Read(buf []byte) (int, error) {
@@ -128,15 +131,16 @@ func (r deadlineReader) Read(buf []byte) (int, error) {
 	return r.conn.Read(buf)
 }
 
-// request reads one request and runs it.
-func (c *client) request() error {
-	if _, err := c.in.in.Peek(1); err != nil {
+// runRequest reads one request and runs it.
+func (c *client) runRequest() error {
+	if _, err := c.reader.stream.Peek(1); err != nil {
 		return err
 	}
-	c.setBusy(true)
-	defer c.setBusy(false)
-	var header requestHeader
-	if err := c.in.decode(maxHeader, &header); err != nil {
+	c.markRequest(true)
+	defer c.markRequest(false)
+	c.header = requestHeader{}
+	header := &c.header
+	if err := c.reader.decode(maxHeader, header); err != nil {
 		return err
 	}
 	c.server.commands.Add(1)
@@ -144,7 +148,7 @@ func (c *client) request() error {
 	if refusal := c.refusal(header.Command, isKnown); refusal != "" {
 		c.server.log.Printf("[WARN] agent.ipc: %v requested %.40q: %s", c.conn.RemoteAddr(), header.Command, refusal)
 		if isKnown && command.body != nil && c.hasHandshake {
-			if _, err := c.in.next(maxBody); err != nil {
+			if _, err := c.reader.nextValue(maxBody); err != nil {
 				return err
 			}
 		}
@@ -156,15 +160,15 @@ func (c *client) request() error {
 	var body interface{}
 	if command.body != nil {
 		body = command.body()
-		if err := c.in.decode(maxBody, body); err != nil {
+		if err := c.reader.decode(maxBody, body); err != nil {
 			return err
 		}
 	}
 	return command.run(c, header.Seq, body)
 }
 
-// setBusy notes that a request begins or ends.
-func (c *client) setBusy(isBusy bool) {
+// markRequest records that a request begins or ends.
+func (c *client) markRequest(isBusy bool) {
 	c.mu.Lock()
 	defer c.mu.Unlock()
 	if c.isBusy = isBusy; isBusy {
@@ -173,14 +177,14 @@ func (c *client) setBusy(isBusy bool) {
 }
 
 // idleSince returns when the last request began. The second result is false if the client is not idle: a request, a
-// stream or a query runs, or frames wait.
+// stream or a query is running, or frames wait.
 func (c *client) idleSince() (time.Time, bool) {
 	c.mu.Lock()
 	defer c.mu.Unlock()
 	return c.lastRequest, !c.isBusy && len(c.streams) == 0 && len(c.subscriptions) == 0 && len(c.frames) == 0
 }
 
-// refusal returns why a command is refused now, or "".
+// refusal returns why a command is refused in the client's present state, or "" if it isn't refused.
 func (c *client) refusal(command string, isKnown bool) string {
 	switch {
 	case command == "handshake":
@@ -197,20 +201,28 @@ func (c *client) refusal(command string, isKnown bool) string {
 	return ""
 }
 
-// answer sends the result of a request. If no frames wait, it writes the answer itself instead of waking the writer.
-func (c *client) answer(seq uint64, err error, bodies ...interface{}) error {
+// encodeAnswer encodes the result of a request.
+func encodeAnswer(seq uint64, err error, bodies []interface{}) ([]byte, error) {
+	if err == nil && len(bodies) == 0 {
+		return successFrame(seq), nil
+	}
 	header := answerHeader{Seq: seq}
 	if err != nil {
 		header.Error = err.Error()
 	}
-	frame, err := encode(append([]interface{}{header}, bodies...)...)
+	return encode(append([]interface{}{header}, bodies...)...)
+}
+
+// answer sends the result of a request. If no frames wait, it writes the answer itself instead of waking the writer.
+func (c *client) answer(seq uint64, err error, bodies ...interface{}) error {
+	frame, err := encodeAnswer(seq, err, bodies)
 	if err != nil {
 		return err
 	}
 	c.mu.Lock()
 	if len(c.frames) > 0 || c.isWriting || c.isClosed || c.isClosing {
 		c.mu.Unlock()
-		return c.queue(frame)
+		return c.queueFrame(frame)
 	}
 	c.isWriting = true
 	c.mu.Unlock()
@@ -223,11 +235,12 @@ func (c *client) send(values ...interface{}) error {
 	if err != nil {
 		return err
 	}
-	return c.queue(frame)
+	return c.queueFrame(frame)
 }
 
-// queue queues a frame. It doesn't wait: if too much waits already, the client is disconnected.
-func (c *client) queue(frame []byte) error {
+// queueFrame adds a frame to those that wait to be written. It doesn't block. If the limits of waiting frames are reached,
+// it disconnects the client.
+func (c *client) queueFrame(frame []byte) error {
 	c.mu.Lock()
 	defer c.mu.Unlock()
 	if c.isClosed || c.isClosing {
@@ -245,7 +258,8 @@ func (c *client) queue(frame []byte) error {
 	return nil
 }
 
-// nextFrames waits for frames, and appends those that are written together to buf. It returns no bytes at the end.
+// nextFrames waits for frames, and appends those that are written together to buf. It returns no bytes if
+// the connection is closed, or if it is closing and no frame waits.
 func (c *client) nextFrames(buf []byte) ([]byte, time.Duration) {
 	c.mu.Lock()
 	defer c.mu.Unlock()
@@ -268,7 +282,7 @@ func (c *client) nextFrames(buf []byte) ([]byte, time.Duration) {
 	return buf, c.timeouts.send
 }
 
-// writeQueued writes the frames that wait, until the end.
+// writeQueued writes the waiting frames until the connection ends.
 func (c *client) writeQueued() {
 	defer c.close()
 	var buf []byte
@@ -283,8 +297,8 @@ func (c *client) writeQueued() {
 	}
 }
 
-// writeFrames writes frames within timeout, or up to a quarter less, since it doesn't set the deadline each time. If
-// the write fails, the client is disconnected. Only the goroutine that set isWriting calls it.
+// writeFrames writes frames within timeout, or within up to a quarter less, because it doesn't set a new deadline for
+// each write. If the write fails, it disconnects the client. Only the goroutine that set isWriting calls it.
 func (c *client) writeFrames(frames []byte, timeout time.Duration) error {
 	if deadline := time.Now().Add(timeout); c.writeDeadline.After(deadline) || c.writeDeadline.Before(deadline.Add(-timeout/4)) {
 		_ = c.conn.SetWriteDeadline(deadline)
@@ -303,7 +317,7 @@ func (c *client) writeFrames(frames []byte, timeout time.Duration) error {
 	return nil
 }
 
-// closeAfterQueued disconnects the client after the frames that wait are written.
+// closeAfterQueued disconnects the client after the waiting frames are written.
 func (c *client) closeAfterQueued() {
 	c.cancel()
 	c.mu.Lock()
@@ -332,7 +346,7 @@ func (c *client) hasMaxStreams() bool {
 	return len(c.streams)+len(c.subscriptions) >= maxStreams
 }
 
-// subscription is a monitor or a query of a client, which sends records.
+// subscription is a monitor or a query of a client. It sends records to the client.
 type subscription struct{ stop context.CancelFunc }
 
 // subscribe runs a function that sends records with this sequence number, until it ends, is stopped, or the client
@@ -346,9 +360,9 @@ func (c *client) subscribe(seq uint64, run func(ctx context.Context)) {
 	}
 	c.subscriptions[seq] = current
 	c.mu.Unlock()
-	c.server.running.Add(1)
+	c.server.goroutines.Add(1)
 	go func() {
-		defer c.server.running.Done()
+		defer c.server.goroutines.Done()
 		run(ctx)
 		cancel()
 		c.mu.Lock()
@@ -395,7 +409,7 @@ func (c *client) publish(e *publishedEvent) {
 	for _, seq := range seqs {
 		frame, err := e.frameAfter(answerHeader{Seq: seq})
 		if err == nil {
-			err = c.queue(frame)
+			err = c.queueFrame(frame)
 		}
 		if err != nil {
 			if errors.Is(err, errTooSlow) {
@@ -409,8 +423,8 @@ func (c *client) publish(e *publishedEvent) {
 // rememberQuery keeps a query that the client may answer, and forgets those whose deadline has passed.
 func (c *client) rememberQuery(number uint64, query *serf.Query) {
 	now := time.Now()
-	for number, open := range c.unanswered {
-		if now.After(open.Deadline()) {
+	for number, unanswered := range c.unanswered {
+		if now.After(unanswered.Deadline()) {
 			delete(c.unanswered, number)
 		}
 	}

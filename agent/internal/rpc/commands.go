@@ -1,3 +1,5 @@
+//lint:file-ignore ST1005 These are the messages of Serf's agent, which its clients know.
+
 package rpc
 
 import (
@@ -17,13 +19,14 @@ import (
 	"kitchenrue.example/serf"
 )
 
-// command is a command of the protocol: how to make its body, if it has one, and how to run it. An error disconnects
-// the client.
+// command is a command of the protocol. body makes an empty request body for the decoder, and is nil if the command has
+// none. run executes the command. If run returns an error, the client is disconnected.
 type command struct {
 	body func() interface{}
 	run  func(c *client, seq uint64, body interface{}) error
 }
 
+// withBody makes a command of a function that needs the request's body.
 func withBody[B any](run func(c *client, seq uint64, body *B) error) command {
 	return command{
 		func() interface{} { return new(B) },
@@ -31,6 +34,7 @@ func withBody[B any](run func(c *client, seq uint64, body *B) error) command {
 	}
 }
 
+// withoutBody makes a command of a function whose request has no body.
 func withoutBody(run func(c *client, seq uint64) error) command {
 	return command{nil, func(c *client, seq uint64, _ interface{}) error { return run(c, seq) }}
 }
@@ -41,27 +45,28 @@ func init() {
 	commands = map[string]command{
 		"handshake":        withBody((*client).handshake),
 		"auth":             withBody((*client).authenticate),
-		"event":            withBody((*client).event),
+		"event":            withBody((*client).fireEvent),
 		"force-leave":      withBody((*client).forceLeave),
-		"join":             withBody((*client).join),
-		"members":          withoutBody((*client).members),
-		"members-filtered": withBody((*client).membersFiltered),
-		"tags":             withBody((*client).tags),
-		"stream":           withBody((*client).stream),
-		"monitor":          withBody((*client).monitor),
-		"stop":             withBody((*client).stop),
+		"join":             withBody((*client).joinAgents),
+		"members":          withoutBody((*client).listMembers),
+		"members-filtered": withBody((*client).listFilteredMembers),
+		"tags":             withBody((*client).updateTags),
+		"stream":           withBody((*client).startStream),
+		"monitor":          withBody((*client).startMonitor),
+		"stop":             withBody((*client).stopStream),
 		"leave":            withoutBody((*client).leave),
-		"query":            withBody((*client).query),
+		"query":            withBody((*client).fireQuery),
 		"respond":          withBody((*client).respond),
 		"install-key":      keyCommand((*serf.KeyManager).InstallKey),
 		"use-key":          keyCommand((*serf.KeyManager).UseKey),
 		"remove-key":       keyCommand((*serf.KeyManager).RemoveKey),
 		"list-keys":        withoutBody((*client).listKeys),
-		"stats":            withoutBody((*client).stats),
-		"get-coordinate":   withBody((*client).coordinate),
+		"stats":            withoutBody((*client).sendStats),
+		"get-coordinate":   withBody((*client).sendCoordinate),
 	}
 }
 
+// keyCommand makes a command that changes a key on all nodes.
 func keyCommand(operation func(*serf.KeyManager, string) (*serf.KeyResponse, error)) command {
 	return withBody(func(c *client, seq uint64, body *keyBody) error {
 		return c.answerKeys(seq, func() (*serf.KeyResponse, error) { return operation(c.server.backend.KeyManager(), body.Key) })
@@ -83,7 +88,7 @@ func (c *client) handshake(seq uint64, body *handshakeBody) error {
 	return c.answer(seq, nil)
 }
 
-// authenticate disconnects a client with a wrong token after the answer.
+// authenticate checks a client's token. A client with a wrong token receives an answer and is then disconnected.
 func (c *client) authenticate(seq uint64, body *authBody) error {
 	if c.server.auth == "" || subtle.ConstantTimeCompare([]byte(body.AuthKey), []byte(c.server.auth)) == 1 {
 		c.isAuthenticated = true
@@ -95,7 +100,7 @@ func (c *client) authenticate(seq uint64, body *authBody) error {
 	return errCloseAfterAnswer
 }
 
-func (c *client) event(seq uint64, body *eventBody) error {
+func (c *client) fireEvent(seq uint64, body *eventBody) error {
 	return c.answer(seq, c.server.backend.Fire(body.Name, body.Payload, body.Coalesce))
 }
 
@@ -103,15 +108,16 @@ func (c *client) forceLeave(seq uint64, body *forceLeaveBody) error {
 	return c.answer(seq, c.server.backend.ForceLeave(body.Node, body.Prune))
 }
 
-func (c *client) join(seq uint64, body *joinBody) error {
+// joinAgents joins other agents, and answers with the number of joined ones.
+func (c *client) joinAgents(seq uint64, body *joinBody) error {
 	return c.runDetached(func() func() error {
 		count, err := c.server.backend.Join(body.Existing, body.Replay)
 		return func() error { return c.answer(seq, err, joinAnswer{int32(count)}) }
 	})
 }
 
-// runDetached runs an operation that may take long, and then answers. When the agent ends, it doesn't wait for the
-// operation.
+// runDetached runs an operation that may take a long time, and then sends its answer. If the agent ends meanwhile,
+// runDetached doesn't wait for the operation.
 func (c *client) runDetached(operation func() (answer func() error)) error {
 	answers := make(chan func() error, 1)
 	go func() { answers <- operation() }()
@@ -123,14 +129,14 @@ func (c *client) runDetached(operation func() (answer func() error)) error {
 	}
 }
 
-func (c *client) members(seq uint64) error {
+func (c *client) listMembers(seq uint64) error {
 	return c.answer(seq, nil, membersAnswer{membersOf(c.server.backend.Members())})
 }
 
-func (c *client) membersFiltered(seq uint64, body *filteredBody) error {
+func (c *client) listFilteredMembers(seq uint64, body *filteredBody) error {
 	members, err := filterMembers(c.server.backend.Members(), body)
 	if err != nil {
-		// After an error, too, the command line reads a list.
+		// Serf's command line reads a list even after an error.
 		return c.answer(seq, err, membersAnswer{})
 	}
 	return c.answer(seq, nil, membersAnswer{membersOf(members)})
@@ -145,34 +151,35 @@ func compileAnchored(text string) (*regexp.Regexp, error) {
 	return expression, nil
 }
 
+// filterMembers returns the members whose tags, status and name match all expressions of the filter.
 func filterMembers(members []serf.Member, filter *filteredBody) ([]serf.Member, error) {
-	var tests []func(*serf.Member) bool
-	add := func(text string, value func(*serf.Member) string) error {
+	var conditions []func(*serf.Member) bool
+	addCondition := func(text string, value func(*serf.Member) string) error {
 		expression, err := compileAnchored(text)
-		tests = append(tests, func(member *serf.Member) bool { return expression.MatchString(value(member)) })
+		conditions = append(conditions, func(member *serf.Member) bool { return expression.MatchString(value(member)) })
 		return err
 	}
 	for key, text := range filter.Tags {
 		key := key
-		if err := add(text, func(member *serf.Member) string { return member.Tags[key] }); err != nil {
+		if err := addCondition(text, func(member *serf.Member) string { return member.Tags[key] }); err != nil {
 			return nil, err
 		}
 	}
 	if filter.Status != "" {
-		if err := add(filter.Status, func(member *serf.Member) string { return member.Status.String() }); err != nil {
+		if err := addCondition(filter.Status, func(member *serf.Member) string { return member.Status.String() }); err != nil {
 			return nil, err
 		}
 	}
 	if filter.Name != "" {
-		if err := add(filter.Name, func(member *serf.Member) string { return member.Name }); err != nil {
+		if err := addCondition(filter.Name, func(member *serf.Member) string { return member.Name }); err != nil {
 			return nil, err
 		}
 	}
 	var found []serf.Member
 next:
 	for i := range members {
-		for _, test := range tests {
-			if !test(&members[i]) {
+		for _, holds := range conditions {
+			if !holds(&members[i]) {
 				continue next
 			}
 		}
@@ -181,13 +188,14 @@ next:
 	return found, nil
 }
 
-func (c *client) tags(seq uint64, body *tagsBody) error {
+func (c *client) updateTags(seq uint64, body *tagsBody) error {
 	return c.answer(seq, c.server.backend.UpdateTags(body.Tags, body.DeleteTags))
 }
 
 var errTooManyStreams = fmt.Errorf("a client has at most %d streams, monitors and queries", maxStreams)
 
-func (c *client) stream(seq uint64, body *streamBody) error {
+// startStream starts to send the events that match the request's filters.
+func (c *client) startStream(seq uint64, body *streamBody) error {
 	filters, err := handlers.ParseFilters(body.Type)
 	if err != nil {
 		return c.answer(seq, errors.New("Invalid event filter"))
@@ -199,7 +207,7 @@ func (c *client) stream(seq uint64, body *streamBody) error {
 		return err
 	}
 	c.server.mu.Lock()
-	c.server.streaming[c] = struct{}{}
+	c.server.withStreams[c] = struct{}{}
 	c.server.mu.Unlock()
 	c.mu.Lock()
 	defer c.mu.Unlock()
@@ -209,7 +217,8 @@ func (c *client) stream(seq uint64, body *streamBody) error {
 	return nil
 }
 
-func (c *client) monitor(seq uint64, body *monitorBody) error {
+// startMonitor starts to send the lines of the log of the requested level and above.
+func (c *client) startMonitor(seq uint64, body *monitorBody) error {
 	name := strings.ToUpper(body.LogLevel)
 	level, ok := logs.LevelOf(name)
 	if !ok {
@@ -238,7 +247,8 @@ func (c *client) monitor(seq uint64, body *monitorBody) error {
 	return nil
 }
 
-func (c *client) stop(seq uint64, body *stopBody) error {
+// stopStream ends a stream, a monitor or a query of the client.
+func (c *client) stopStream(seq uint64, body *stopBody) error {
 	c.mu.Lock()
 	delete(c.streams, body.Stop)
 	if stop := c.subscriptions[body.Stop]; stop != nil {
@@ -248,6 +258,7 @@ func (c *client) stop(seq uint64, body *stopBody) error {
 	return c.answer(seq, nil)
 }
 
+// leave makes the node leave the cluster, answers, and then shuts down the agent.
 func (c *client) leave(seq uint64) error {
 	// The leave continues if the client disconnects.
 	err := c.server.backend.Leave()
@@ -258,7 +269,8 @@ func (c *client) leave(seq uint64) error {
 	return answerErr
 }
 
-func (c *client) query(seq uint64, body *queryBody) error {
+// fireQuery fires a query, and sends each ack and response to the client until the query is over.
+func (c *client) fireQuery(seq uint64, body *queryBody) error {
 	if c.hasMaxStreams() {
 		return c.answer(seq, errTooManyStreams)
 	}
@@ -302,6 +314,7 @@ func nextRecord(ctx context.Context, response *serf.QueryResponse) (queryResult,
 	return queryResult{Type: "done"}, false
 }
 
+// respond answers a query that a stream has sent to the client.
 func (c *client) respond(seq uint64, body *respondBody) error {
 	c.mu.Lock()
 	query := c.unanswered[body.ID]
@@ -313,6 +326,7 @@ func (c *client) respond(seq uint64, body *respondBody) error {
 	return c.answer(seq, query.Respond(body.Payload))
 }
 
+// answerKeys runs an operation on the keys of all nodes, and answers with their responses.
 func (c *client) answerKeys(seq uint64, operation func() (*serf.KeyResponse, error)) error {
 	return c.runDetached(func() func() error {
 		response, err := operation()
@@ -322,12 +336,12 @@ func (c *client) answerKeys(seq uint64, operation func() (*serf.KeyResponse, err
 	})
 }
 
-func (c *client) stats(seq uint64) error {
+func (c *client) sendStats(seq uint64) error {
 	return c.answer(seq, nil, c.server.backend.Stats())
 }
 
-// coordinate returns a node's coordinate, or that it is not known.
-func (c *client) coordinate(seq uint64, body *coordinateBody) error {
+// sendCoordinate answers with a node's coordinate, and whether it is known.
+func (c *client) sendCoordinate(seq uint64, body *coordinateBody) error {
 	position, isKnown := c.server.backend.Coordinate(body.Node)
 	if !isKnown {
 		position = &coordinate.Coordinate{}

@@ -15,29 +15,29 @@ import (
 )
 
 func TestCommands(t *testing.T) {
-	s, f, _ := start(t, "")
+	s, f, _ := startServer(t, "")
 	f.withNode(t)
-	p := dial(t, s).greet()
-	p.expect(p.ask("handshake", handshakeBody{1}), "Handshake already performed")
-	p.expect(p.ask("handshake", handshakeBody{2}), "Unsupported IPC version")
-	p.expect(p.ask("auth", authBody{"any"}), "")
-	p.expect(p.ask("event", eventBody{Name: "deploy", Payload: []byte("v1")}), "")
-	p.expect(p.ask("event", eventBody{Name: "large"}), "user event exceeds its limit")
-	p.expect(p.ask("force-leave", forceLeaveBody{Node: "beta"}), "")
-	p.expect(p.ask("tags", tagsBody{}), "")
+	p := dial(t, s).handshake()
+	p.expect(p.request("handshake", handshakeBody{1}), "Handshake already performed")
+	p.expect(p.request("handshake", handshakeBody{2}), "Unsupported IPC version")
+	p.expect(p.request("auth", authBody{"any"}), "")
+	p.expect(p.request("event", eventBody{Name: "deploy", Payload: []byte("v1")}), "")
+	p.expect(p.request("event", eventBody{Name: "large"}), "user event exceeds its limit")
+	p.expect(p.request("force-leave", forceLeaveBody{Node: "beta"}), "")
+	p.expect(p.request("tags", tagsBody{}), "")
 	var count joinAnswer
-	p.expect(p.ask("join", joinBody{Existing: []string{"a", "b"}}), "")
+	p.expect(p.request("join", joinBody{Existing: []string{"a", "b"}}), "")
 	if p.read(&count); count.Num != 2 {
 		t.Error(count)
 	}
-	p.expect(p.ask("join", joinBody{}), "nobody was joined")
+	p.expect(p.request("join", joinBody{}), "nobody was joined")
 	if p.read(&count); count.Num != 0 {
 		t.Error(count)
 	}
 	var keys keyAnswer
 	// On a busy machine, the node's own answer may be too late.
 	testkit.Eventually(t, "the node has its key", func() bool {
-		seq := p.ask("list-keys")
+		seq := p.request("list-keys")
 		var header answerHeader
 		if p.read(&header); header.Seq != seq {
 			t.Fatal(header)
@@ -45,24 +45,24 @@ func TestCommands(t *testing.T) {
 		p.read(&keys)
 		return header.Error == "" && keys.NumNodes == 1 && keys.Keys[base64.StdEncoding.EncodeToString(make([]byte, 32))] == 1
 	})
-	p.expect(p.ask("install-key", keyBody{"%"}), "illegal base64 data at input byte 0")
+	p.expect(p.request("install-key", keyBody{"%"}), "illegal base64 data at input byte 0")
 	p.read(&keys)
 	var stats map[string]map[string]string
-	p.expect(p.ask("stats"), "")
+	p.expect(p.request("stats"), "")
 	if p.read(&stats); stats["agent"]["name"] != "alpha" {
 		t.Error(stats)
 	}
 	var place coordinateAnswer
 	for name, want := range map[string]coordinateAnswer{"alpha": {coordinate.Coordinate{Vec: []float64{1, 2}, Height: 3}, true}, "beta": {}} {
-		p.expect(p.ask("get-coordinate", coordinateBody{name}), "")
+		p.expect(p.request("get-coordinate", coordinateBody{name}), "")
 		place = coordinateAnswer{}
 		if p.read(&place); !reflect.DeepEqual(place, want) {
 			t.Error(name, place)
 		}
 	}
-	p.expect(p.ask("respond", respondBody{ID: 9}), "No pending queries matching ID")
-	p.expect(p.ask("stop", stopBody{77}), "")
-	p.expect(p.ask("leave"), "")
+	p.expect(p.request("respond", respondBody{ID: 9}), "No pending queries matching ID")
+	p.expect(p.request("stop", stopBody{77}), "")
+	p.expect(p.request("leave"), "")
 	// The answer is sent before the agent ends.
 	testkit.Eventually(t, "the agent is shut down", f.wasShutdown)
 	if want := []string{"fire deploy v1", "fire large ", "force-leave beta", "tags", "leave"}; !reflect.DeepEqual(f.calls, want) {
@@ -71,10 +71,10 @@ func TestCommands(t *testing.T) {
 }
 
 func TestMembers(t *testing.T) {
-	s, _, _ := start(t, "")
-	p := dial(t, s).greet()
+	s, _, _ := startServer(t, "")
+	p := dial(t, s).handshake()
 	var all membersAnswer
-	p.expect(p.ask("members"), "")
+	p.expect(p.request("members"), "")
 	p.read(&all)
 	want := []member{
 		{Name: "alpha", Addr: []byte{127, 0, 0, 1}, Port: 7946, Tags: map[string]string{"role": "web"}, Status: "alive", ProtocolMin: 1, DelegateCur: 5},
@@ -98,7 +98,7 @@ func TestMembers(t *testing.T) {
 		{filteredBody{Tags: map[string]string{"none": ".*"}, Status: "failed"}, "[beta]", ""},
 		{filteredBody{Name: "("}, "[]", "Failed to compile regex: error parsing regexp: missing closing ): `^(?:()$`"},
 	} {
-		p.expect(p.ask("members-filtered", test.by), test.says)
+		p.expect(p.request("members-filtered", test.by), test.says)
 		all = membersAnswer{}
 		p.read(&all)
 		names := []string{}
@@ -112,15 +112,15 @@ func TestMembers(t *testing.T) {
 }
 
 func TestStreams(t *testing.T) {
-	s, f, _ := start(t, "")
-	p := dial(t, s).greet()
-	p.expect(p.ask("stream", streamBody{"foo"}), "Invalid event filter")
-	users, queries := p.ask("stream", streamBody{"user:deploy"}), uint64(0)
+	s, f, _ := startServer(t, "")
+	p := dial(t, s).handshake()
+	p.expect(p.request("stream", streamBody{"foo"}), "Invalid event filter")
+	users, queries := p.request("stream", streamBody{"user:deploy"}), uint64(0)
 	p.expect(users, "")
-	queries = p.ask("stream", streamBody{"query,member-join"})
+	queries = p.request("stream", streamBody{"query,member-join"})
 	p.expect(queries, "")
-	testkit.Eventually(t, "two streams are open", func() bool { return streams(s) == 2 })
-	query, answers := query(t, f, f.withNode(t))
+	testkit.Eventually(t, "two streams are open", func() bool { return countStreams(s) == 2 })
+	query, answers := fireTestQuery(t, f, f.withNode(t))
 	s.Publish(serf.UserEvent{Name: "other"})
 	s.Publish(serf.UserEvent{Name: "deploy", LTime: 3, Payload: []byte("v1"), Coalesce: true})
 	s.Publish(serf.MemberEvent{Type: serf.EventMemberJoin, Members: []serf.Member{{Name: "gamma"}}})
@@ -140,22 +140,22 @@ func TestStreams(t *testing.T) {
 	if p.read(&event); event.ID != 1 || event.Name != "load" || event.Event != "query" {
 		t.Error(event)
 	}
-	p.expect(p.ask("respond", respondBody{1, []byte("0.12")}), "")
+	p.expect(p.request("respond", respondBody{1, []byte("0.12")}), "")
 	if answer := <-answers.ResponseCh(); string(answer.Payload) != "0.12" {
 		t.Error(answer)
 	}
-	p.expect(p.ask("respond", respondBody{1, nil}), "No pending queries matching ID")
-	p.expect(p.ask("stop", stopBody{users}), "")
+	p.expect(p.request("respond", respondBody{1, nil}), "No pending queries matching ID")
+	p.expect(p.request("stop", stopBody{users}), "")
 	s.Publish(serf.UserEvent{Name: "deploy"})
-	p.expect(p.ask("stop", stopBody{queries}), "")
+	p.expect(p.request("stop", stopBody{queries}), "")
 }
 
 func TestQueries(t *testing.T) {
-	s, f, _ := start(t, "")
-	p := dial(t, s).greet()
-	p.expect(p.ask("query", queryBody{Name: "large"}), "query exceeds limit of 1024 bytes")
+	s, f, _ := startServer(t, "")
+	p := dial(t, s).handshake()
+	p.expect(p.request("query", queryBody{Name: "large"}), "query exceeds limit of 1024 bytes")
 	events := f.withNode(t)
-	seq := p.ask("query", queryBody{Name: "load", RequestAck: true, Timeout: int64(5 * time.Second)})
+	seq := p.request("query", queryBody{Name: "load", RequestAck: true, Timeout: int64(5 * time.Second)})
 	p.expect(seq, "")
 	go func() {
 		for e := range events {
@@ -182,8 +182,8 @@ func TestQueries(t *testing.T) {
 // Nothing follows the last record of a query, even if answers arrive at its deadline, and each record before it names its sender. Serf's own
 // client ends with a panic if it closes while it handles a record.
 func TestNothingFollowsLastRecord(t *testing.T) {
-	s, f, _ := start(t, "")
-	p := dial(t, s).greet()
+	s, f, _ := startServer(t, "")
+	p := dial(t, s).handshake()
 	events := f.withNode(t)
 	go func() {
 		for e := range events {
@@ -196,7 +196,7 @@ func TestNothingFollowsLastRecord(t *testing.T) {
 		}
 	}()
 	for n := 0; n < 20; n++ {
-		seq := p.ask("query", queryBody{Name: "load", RequestAck: true, Timeout: int64(30 * time.Millisecond)})
+		seq := p.request("query", queryBody{Name: "load", RequestAck: true, Timeout: int64(30 * time.Millisecond)})
 		p.expect(seq, "")
 		for isLast := false; !isLast; {
 			var record queryResult
@@ -207,16 +207,16 @@ func TestNothingFollowsLastRecord(t *testing.T) {
 			}
 		}
 		time.Sleep(5 * time.Millisecond)
-		p.expect(p.ask("event", eventBody{Name: "next"}), "")
+		p.expect(p.request("event", eventBody{Name: "next"}), "")
 	}
 }
 
 func TestMonitor(t *testing.T) {
-	s, _, log := start(t, "")
-	p := dial(t, s).greet()
-	p.expect(p.ask("monitor", monitorBody{"loud"}), "Unknown log level: LOUD")
+	s, _, log := startServer(t, "")
+	p := dial(t, s).handshake()
+	p.expect(p.request("monitor", monitorBody{"loud"}), "Unknown log level: LOUD")
 	log.SetFlags(0)
-	seq := p.ask("monitor", monitorBody{"warn"})
+	seq := p.request("monitor", monitorBody{"warn"})
 	p.expect(seq, "")
 	log.Print("[INFO] no")
 	log.Print("[ERR] yes")
@@ -227,10 +227,11 @@ func TestMonitor(t *testing.T) {
 			break
 		}
 	}
-	p.expect(p.ask("stop", stopBody{seq}), "")
-	testkit.Eventually(t, "no monitor is open", func() bool { return followers(s) == 0 })
+	p.expect(p.request("stop", stopBody{seq}), "")
+	testkit.Eventually(t, "no monitor is open", func() bool { return countFollowers(s) == 0 })
 }
 
+// countClients returns the sum of count over all clients.
 func countClients(s *Server, count func(*client) int) int {
 	s.mu.Lock()
 	defer s.mu.Unlock()
@@ -243,8 +244,10 @@ func countClients(s *Server, count func(*client) int) int {
 	return total
 }
 
-func streams(s *Server) int { return countClients(s, func(c *client) int { return len(c.streams) }) }
-func followers(s *Server) int {
+func countStreams(s *Server) int {
+	return countClients(s, func(c *client) int { return len(c.streams) })
+}
+func countFollowers(s *Server) int {
 	return countClients(s, func(c *client) int { return len(c.subscriptions) })
 }
-func clients(s *Server) int { return countClients(s, func(*client) int { return 1 }) }
+func countConnected(s *Server) int { return countClients(s, func(*client) int { return 1 }) }

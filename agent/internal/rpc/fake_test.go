@@ -24,9 +24,9 @@ type fakeBackend struct {
 	isShutdown bool
 	// node answers queries and has keys, in tests that need one.
 	node *serf.Serf
-	// Further members, for long answers.
-	more []serf.Member
-	// If it isn't nil, a join lasts until it is closed.
+	// moreMembers has further members, for long answers.
+	moreMembers []serf.Member
+	// If joins isn't nil, each join lasts until joins is closed.
 	joins chan struct{}
 }
 
@@ -48,7 +48,7 @@ func (f *fakeBackend) Members() []serf.Member {
 	return append([]serf.Member{
 		{Name: "alpha", Addr: net.IPv4(127, 0, 0, 1), Port: 7946, Tags: map[string]string{"role": "web"}, Status: serf.StatusAlive, ProtocolMin: 1, DelegateCur: 5},
 		{Name: "beta", Addr: net.ParseIP("::1"), Status: serf.StatusFailed},
-	}, f.more...)
+	}, f.moreMembers...)
 }
 
 func (f *fakeBackend) Join(existing []string, replay bool) (int, error) {
@@ -114,8 +114,8 @@ func (f *fakeBackend) withNode(t *testing.T) <-chan serf.Event {
 	return events
 }
 
-// query returns a query that the node hands out, and its responses.
-func query(t *testing.T, f *fakeBackend, events <-chan serf.Event) (*serf.Query, *serf.QueryResponse) {
+// fireTestQuery returns a query that the node hands out, and its responses.
+func fireTestQuery(t *testing.T, f *fakeBackend, events <-chan serf.Event) (*serf.Query, *serf.QueryResponse) {
 	t.Helper()
 	response, err := f.node.Query("load", nil, &serf.QueryParam{RequestAck: true, Timeout: 10 * time.Second})
 	testkit.Must(t, err)
@@ -129,13 +129,14 @@ func query(t *testing.T, f *fakeBackend, events <-chan serf.Event) (*serf.Query,
 
 var testTimeouts = timeouts{5 * time.Second, 5 * time.Second, 2 * time.Second, 200 * time.Millisecond, time.Millisecond}
 
-// start starts a server.
-func start(t *testing.T, token string) (*Server, *fakeBackend, *logs.Log) {
+// startServer starts a server.
+func startServer(t *testing.T, token string) (*Server, *fakeBackend, *logs.Log) {
 	t.Helper()
-	return startWith(t, token, testTimeouts)
+	return startServerWith(t, token, testTimeouts)
 }
 
-func startWith(t *testing.T, token string, timeouts timeouts) (*Server, *fakeBackend, *logs.Log) {
+// startServerWith is startServer with other timeouts.
+func startServerWith(t *testing.T, token string, timeouts timeouts) (*Server, *fakeBackend, *logs.Log) {
 	t.Helper()
 	f := &fakeBackend{}
 	log := logs.New(&bytes.Buffer{}, logs.Trace)
@@ -153,6 +154,7 @@ type peer struct {
 	seq  uint64
 }
 
+// dial connects a peer to the server.
 func dial(t *testing.T, s *Server) *peer {
 	t.Helper()
 	conn, err := net.Dial("tcp", s.Addr().String())
@@ -161,7 +163,7 @@ func dial(t *testing.T, s *Server) *peer {
 	return &peer{t: t, conn: conn, in: newReader(conn)}
 }
 
-func encoded(t *testing.T, values ...interface{}) []byte {
+func mustEncode(t *testing.T, values ...interface{}) []byte {
 	t.Helper()
 	data, err := encode(values...)
 	testkit.Must(t, err)
@@ -170,13 +172,13 @@ func encoded(t *testing.T, values ...interface{}) []byte {
 
 func (p *peer) write(values ...interface{}) {
 	p.t.Helper()
-	if _, err := p.conn.Write(encoded(p.t, values...)); err != nil {
+	if _, err := p.conn.Write(mustEncode(p.t, values...)); err != nil {
 		p.t.Fatal(err)
 	}
 }
 
-// ask sends a request, and returns its sequence number.
-func (p *peer) ask(command string, body ...interface{}) uint64 {
+// request sends a request, and returns its sequence number.
+func (p *peer) request(command string, body ...interface{}) uint64 {
 	p.t.Helper()
 	p.seq++
 	p.write(append([]interface{}{requestHeader{command, p.seq}}, body...)...)
@@ -199,9 +201,10 @@ func (p *peer) expect(seq uint64, want string) {
 	}
 }
 
-func (p *peer) greet() *peer {
+// handshake makes the handshake, and returns the peer.
+func (p *peer) handshake() *peer {
 	p.t.Helper()
-	p.expect(p.ask("handshake", handshakeBody{1}), "")
+	p.expect(p.request("handshake", handshakeBody{1}), "")
 	return p
 }
 
@@ -210,7 +213,7 @@ func (p *peer) expectClosed() {
 	p.t.Helper()
 	_ = p.conn.SetReadDeadline(time.Now().Add(2 * time.Minute))
 	for {
-		if _, err := p.in.in.ReadByte(); err != nil {
+		if _, err := p.in.stream.ReadByte(); err != nil {
 			var late net.Error
 			if errors.As(err, &late) && late.Timeout() {
 				p.t.Fatal("the client isn't disconnected")

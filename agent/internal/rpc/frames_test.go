@@ -22,7 +22,7 @@ func TestFramesAreWrittenTogether(t *testing.T) {
 	for i, length := range []int{10, maxWrite - 10, 1, 2 * maxWrite, 5, 6} {
 		frame := bytes.Repeat([]byte{byte(i)}, length)
 		want = append(want, frame...)
-		testkit.Must(t, c.queue(frame))
+		testkit.Must(t, c.queueFrame(frame))
 	}
 	var room []byte
 	for len(c.frames) > 0 {
@@ -66,8 +66,8 @@ func TestAnswersKeepTheirPlace(t *testing.T) {
 	c := &client{timeouts: testTimeouts, conn: conn, cancel: func() {}}
 	c.changed = sync.NewCond(&c.mu)
 	answered := make(chan error, 1)
-	frame := func(seq uint64) []byte { return encoded(t, answerHeader{Seq: seq}) }
-	takes := func(seqs ...uint64) {
+	frame := func(seq uint64) []byte { return mustEncode(t, answerHeader{Seq: seq}) }
+	expectFrames := func(seqs ...uint64) {
 		t.Helper()
 		var want []byte
 		for _, seq := range seqs {
@@ -88,14 +88,14 @@ func TestAnswersKeepTheirPlace(t *testing.T) {
 		defer c.mu.Unlock()
 		return c.isWriting
 	})
-	// While that is written, these wait.
-	for _, err := range []error{c.queue(frame(2)), c.answer(3, nil)} {
+	// While the first frame is being written, these frames wait.
+	for _, err := range []error{c.queueFrame(frame(2)), c.answer(3, nil)} {
 		testkit.Must(t, err)
 	}
 	go c.writeQueued()
-	takes(1)
+	expectFrames(1)
 	testkit.Check(t, <-answered)
-	takes(2, 3)
+	expectFrames(2, 3)
 	c.mu.Lock()
 	c.isClosing = true
 	c.changed.Broadcast()
@@ -107,16 +107,16 @@ func TestAnswersKeepTheirPlace(t *testing.T) {
 
 // Each stream receives an event's record after its own header.
 func TestEventToManyStreams(t *testing.T) {
-	s, _, _ := start(t, "")
-	first, second := dial(t, s).greet(), dial(t, s).greet()
-	seqs := map[*peer][]uint64{first: {first.ask("stream", streamBody{"user"})}, second: nil}
+	s, _, _ := startServer(t, "")
+	first, second := dial(t, s).handshake(), dial(t, s).handshake()
+	seqs := map[*peer][]uint64{first: {first.request("stream", streamBody{"user"})}, second: nil}
 	first.expect(seqs[first][0], "")
 	for range []int{1, 2} {
-		seq := second.ask("stream", streamBody{"*"})
+		seq := second.request("stream", streamBody{"*"})
 		second.expect(seq, "")
 		seqs[second] = append(seqs[second], seq)
 	}
-	testkit.Eventually(t, "three streams are open", func() bool { return streams(s) == 3 })
+	testkit.Eventually(t, "three streams are open", func() bool { return countStreams(s) == 3 })
 	for number := uint64(1); number <= 100; number++ {
 		s.Publish(serf.UserEvent{Name: "deploy", LTime: serf.LamportTime(number), Payload: []byte("v1")})
 	}
@@ -150,7 +150,7 @@ func TestBytesAreBin(t *testing.T) {
 		"\xa1k\xa1v":                       membersAnswer{membersOf(all)},
 		"\xa3Log\xa4text":                  logLine{"text"},
 	} {
-		if data := encoded(t, value); !bytes.Contains(data, []byte(want)) {
+		if data := mustEncode(t, value); !bytes.Contains(data, []byte(want)) {
 			t.Errorf("%q, without %q", data, want)
 		}
 	}

@@ -132,6 +132,7 @@ type member struct {
 	DelegateCur uint8
 }
 
+// membersOf returns the members as the protocol has them.
 func membersOf(members []serf.Member) []member {
 	list := make([]member, 0, len(members))
 	for _, m := range members {

@@ -37,12 +37,12 @@ func TestSwitchesOfRequests(t *testing.T) {
 	s, err := listen("127.0.0.1:0", "", f, logs.New(&bytes.Buffer{}, logs.Trace), testTimeouts)
 	testkit.Must(t, err)
 	t.Cleanup(s.Close)
-	p := dial(t, s).greet()
+	p := dial(t, s).handshake()
 	var want []string
 	for _, is := range []bool{true, false} {
-		p.expect(p.ask("event", eventBody{Name: "deploy", Coalesce: is}), "")
-		p.expect(p.ask("force-leave", forceLeaveBody{Node: "beta", Prune: is}), "")
-		p.expect(p.ask("join", joinBody{Existing: []string{"a"}, Replay: is}), "")
+		p.expect(p.request("event", eventBody{Name: "deploy", Coalesce: is}), "")
+		p.expect(p.request("force-leave", forceLeaveBody{Node: "beta", Prune: is}), "")
+		p.expect(p.request("join", joinBody{Existing: []string{"a"}, Replay: is}), "")
 		var count joinAnswer
 		p.read(&count)
 		want = append(want, fmt.Sprint("fire ", is), fmt.Sprint("force-leave ", is), fmt.Sprint("join ", is))
@@ -54,8 +54,8 @@ func TestSwitchesOfRequests(t *testing.T) {
 
 // Every command but the handshake and auth needs the token.
 func TestEveryCommandNeedsTheToken(t *testing.T) {
-	s, f, _ := start(t, "token")
-	p := dial(t, s).greet()
+	s, f, _ := startServer(t, "token")
+	p := dial(t, s).handshake()
 	for name, command := range commands {
 		if name == "handshake" || name == "auth" {
 			continue
@@ -64,30 +64,30 @@ func TestEveryCommandNeedsTheToken(t *testing.T) {
 		if command.body != nil {
 			bodies = append(bodies, command.body())
 		}
-		p.expect(p.ask(name, bodies...), "Authentication required")
+		p.expect(p.request(name, bodies...), "Authentication required")
 	}
-	if len(f.calls) > 0 || streams(s)+followers(s) > 0 {
-		t.Error(f.calls, streams(s), followers(s))
+	if len(f.calls) > 0 || countStreams(s)+countFollowers(s) > 0 {
+		t.Error(f.calls, countStreams(s), countFollowers(s))
 	}
 }
 
 // Monitors and streams count together towards the limit of a client.
 func TestMonitorsCountAsStreams(t *testing.T) {
-	s, _, _ := start(t, "")
-	p := dial(t, s).greet()
+	s, _, _ := startServer(t, "")
+	p := dial(t, s).handshake()
 	for i := 0; i < maxStreams; i++ {
 		if i%2 == 0 {
-			p.expect(p.ask("monitor", monitorBody{"err"}), "")
+			p.expect(p.request("monitor", monitorBody{"err"}), "")
 		} else {
-			p.expect(p.ask("stream", streamBody{"query"}), "")
+			p.expect(p.request("stream", streamBody{"query"}), "")
 		}
 	}
-	p.expect(p.ask("monitor", monitorBody{"err"}), errTooManyStreams.Error())
-	p.expect(p.ask("stream", streamBody{"query"}), errTooManyStreams.Error())
+	p.expect(p.request("monitor", monitorBody{"err"}), errTooManyStreams.Error())
+	p.expect(p.request("stream", streamBody{"query"}), errTooManyStreams.Error())
 }
 
-// Queries whose deadline has passed leave room for later ones. (The deadline of a query that no node handed out has
-// passed.)
+// Queries whose deadline has passed leave room for later ones. (No node handed out these queries, so their deadlines
+// have passed.)
 func TestExpiredQueriesAreForgotten(t *testing.T) {
 	c, last := &client{unanswered: map[uint64]*serf.Query{}}, &serf.Query{Name: "last"}
 	for number := uint64(0); number < maxUnanswered; number++ {
@@ -101,7 +101,7 @@ func TestExpiredQueriesAreForgotten(t *testing.T) {
 // A client can answer at most maxUnanswered queries.
 func TestUnansweredQueriesAreLimited(t *testing.T) {
 	f := &fakeBackend{}
-	open, _ := query(t, f, f.withNode(t))
+	open, _ := fireTestQuery(t, f, f.withNode(t))
 	c := &client{unanswered: map[uint64]*serf.Query{}}
 	for number := uint64(0); number < 2*maxUnanswered && time.Now().Before(open.Deadline()); number++ {
 		if c.rememberQuery(number, open); len(c.unanswered) > maxUnanswered {
@@ -110,10 +110,10 @@ func TestUnansweredQueriesAreLimited(t *testing.T) {
 	}
 }
 
-// idleClient returns a client for which nothing is written.
+// idleClient returns a client for which no goroutine writes.
 func idleClient(t *testing.T) *client {
 	t.Helper()
-	s, _, _ := start(t, "")
+	s, _, _ := startServer(t, "")
 	here, there := net.Pipe()
 	t.Cleanup(func() { here.Close(); there.Close() })
 	return newClient(s, here)
@@ -124,11 +124,11 @@ func TestLimitsOfWaitingFrames(t *testing.T) {
 	for _, test := range []struct{ length, count int }{{1, maxFrames}, {maxBytes / 8, 8}, {maxBytes, 1}} {
 		c := idleClient(t)
 		for i := 0; i < test.count; i++ {
-			if err := c.queue(make([]byte, test.length)); err != nil {
+			if err := c.queueFrame(make([]byte, test.length)); err != nil {
 				t.Fatal(test, i, err)
 			}
 		}
-		if err := c.queue([]byte{1}); err != errTooSlow || !c.isClosed {
+		if err := c.queueFrame([]byte{1}); err != errTooSlow || !c.isClosed {
 			t.Error(test, err)
 		}
 	}
@@ -136,7 +136,7 @@ func TestLimitsOfWaitingFrames(t *testing.T) {
 
 // The answer about keys has the numbers of nodes, of responses and of errors.
 func TestNumbersOfKeyAnswers(t *testing.T) {
-	s, _, _ := start(t, "")
+	s, _, _ := startServer(t, "")
 	here, there := net.Pipe()
 	defer there.Close()
 	c, p := newClient(s, here), &peer{t: t, conn: there, in: newReader(there)}
@@ -156,14 +156,14 @@ func TestNumbersOfKeyAnswers(t *testing.T) {
 	}
 }
 
-// The answer that a stream began precedes the stream's events.
+// The answer to a request for a stream precedes the stream's events.
 func TestAnswerPrecedesEvents(t *testing.T) {
-	s, _, _ := start(t, "")
+	s, _, _ := startServer(t, "")
 	here, there := net.Pipe()
 	defer there.Close()
 	c := newClient(s, here)
 	began := make(chan error, 1)
-	go func() { began <- c.stream(1, &streamBody{"*"}) }()
+	go func() { began <- c.startStream(1, &streamBody{"*"}) }()
 	// (nobody reads the answer yet, so it is still being written)
 	testkit.Eventually(t, "the answer is written", func() bool {
 		c.mu.Lock()

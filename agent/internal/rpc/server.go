@@ -24,8 +24,8 @@ import (
 // MaxClients is the maximum number of clients at once, if the process may have enough files open.
 const MaxClients = 128
 
-// maxClientsOf returns the maximum number of clients of a process that may have this many files open: a third of them, so
-// that gossip, the snapshot and handlers have the others.
+// maxClientsOf returns the maximum number of clients for a process that may have this many files open. It is a third of
+// that number, so that enough files are left for gossip, the snapshot and handlers.
 func maxClientsOf(files uint64) int {
 	switch third := files / 3; {
 	case third < 1:
@@ -52,7 +52,8 @@ type Backend interface {
 	Members() []serf.Member
 	// Join joins the agents at these addresses, and returns how many it joined.
 	Join(existing []string, replay bool) (int, error)
-	// Leave leaves the cluster. Shutdown is called after it, ends the agent, and doesn't wait.
+	// Leave leaves the cluster. The server calls Shutdown after it. Shutdown ends the agent, and doesn't wait for the
+	// end.
 	Leave() error
 	Shutdown()
 	ForceLeave(name string, prune bool) error
@@ -66,26 +67,26 @@ type Backend interface {
 
 // Server serves clients.
 type Server struct {
-	backend  Backend
-	log      *logs.Log
-	auth     string
-	timeouts timeouts
-	listener net.Listener
-	ctx      context.Context
-	stop     context.CancelFunc
-	running  sync.WaitGroup
+	backend    Backend
+	log        *logs.Log
+	auth       string
+	timeouts   timeouts
+	listener   net.Listener
+	ctx        context.Context
+	cancel     context.CancelFunc
+	goroutines sync.WaitGroup
 
 	// commands counts the requests that are not in the metrics yet.
 	commands atomic.Int64
 
 	mu sync.Mutex
-	// clients are at most maxClients.
+	// clients has the connected clients, at most maxClients.
 	clients    map[*client]struct{}
 	maxClients int
-	// streaming are the clients that may have a stream.
-	streaming map[*client]struct{}
-	// queries counts the published queries. Their numbers identify them.
-	queries uint64
+	// withStreams has the clients that may have a stream.
+	withStreams map[*client]struct{}
+	// queryCount counts the published queries. Their numbers identify them.
+	queryCount uint64
 }
 
 // Listen starts a server. If token isn't empty, clients have to send it.
@@ -93,18 +94,19 @@ func Listen(address, token string, backend Backend, log *logs.Log) (*Server, err
 	return listen(address, token, backend, log, defaultTimeouts)
 }
 
+// listen is Listen with other timeouts.
 func listen(address, token string, backend Backend, log *logs.Log, timeouts timeouts) (*Server, error) {
 	listener, err := net.Listen("tcp", address)
 	if err != nil {
 		return nil, fmt.Errorf("-rpc-addr: %w", err)
 	}
-	ctx, stop := context.WithCancel(context.Background())
+	ctx, cancel := context.WithCancel(context.Background())
 	s := &Server{
-		backend: backend, log: log, auth: token, timeouts: timeouts, listener: listener, ctx: ctx, stop: stop, maxClients: maxClients(),
-		clients: map[*client]struct{}{}, streaming: map[*client]struct{}{},
+		backend: backend, log: log, auth: token, timeouts: timeouts, listener: listener, ctx: ctx, cancel: cancel, maxClients: maxClients(),
+		clients: map[*client]struct{}{}, withStreams: map[*client]struct{}{},
 	}
-	s.running.Add(2)
-	go s.accept()
+	s.goroutines.Add(2)
+	go s.acceptClients()
 	go s.countCommands()
 	return s, nil
 }
@@ -112,8 +114,9 @@ func listen(address, token string, backend Backend, log *logs.Log, timeouts time
 // Addr returns the address at which the server listens.
 func (s *Server) Addr() net.Addr { return s.listener.Addr() }
 
-func (s *Server) accept() {
-	defer s.running.Done()
+// acceptClients serves each client that connects, until the server is closed.
+func (s *Server) acceptClients() {
+	defer s.goroutines.Done()
 	for {
 		conn, err := s.listener.Accept()
 		if s.ctx.Err() != nil || errors.Is(err, net.ErrClosed) {
@@ -123,7 +126,7 @@ func (s *Server) accept() {
 			return
 		}
 		if err != nil {
-			// For example, the process has too many open files, and may have fewer later.
+			// For example, the process may have too many files open at the moment.
 			s.log.Printf("[ERR] agent.ipc: accepting a client failed: %v", err)
 			time.Sleep(100 * time.Millisecond)
 			continue
@@ -132,8 +135,8 @@ func (s *Server) accept() {
 	}
 }
 
-// serve starts to serve a client. If there are maxClients already, the one that has been idle the longest is
-// disconnected; if none is idle, the new one is.
+// serve starts to serve a client. If there are maxClients already, it disconnects the client that has been idle the
+// longest. If no client is idle, it disconnects the new one.
 func (s *Server) serve(conn net.Conn) {
 	s.mu.Lock()
 	defer s.mu.Unlock()
@@ -146,22 +149,23 @@ func (s *Server) serve(conn net.Conn) {
 	c := newClient(s, conn)
 	s.clients[c] = struct{}{}
 	s.log.Printf("[INFO] agent.ipc: Accepted client: %v", conn.RemoteAddr())
-	s.running.Add(2)
+	s.goroutines.Add(2)
 	go func() {
-		defer s.running.Done()
+		defer s.goroutines.Done()
 		c.readRequests()
 		s.mu.Lock()
 		delete(s.clients, c)
-		delete(s.streaming, c)
+		delete(s.withStreams, c)
 		s.mu.Unlock()
 	}()
 	go func() {
-		defer s.running.Done()
+		defer s.goroutines.Done()
 		c.writeQueued()
 	}()
 }
 
-// closeIdlest disconnects the client that has been idle the longest. It returns false if none is idle. mu is held.
+// closeIdlest disconnects the client that has been idle the longest. It returns false if none is idle. The caller holds
+// mu.
 func (s *Server) closeIdlest() bool {
 	var idlest *client
 	var since time.Time
@@ -185,23 +189,23 @@ func (s *Server) Publish(e serf.Event) {
 	s.mu.Lock()
 	defer s.mu.Unlock()
 	if e.EventType() == serf.EventQuery {
-		s.queries++
+		s.queryCount++
 	}
-	published := &publishedEvent{Event: e, number: s.queries}
-	for c := range s.streaming {
+	published := &publishedEvent{Event: e, number: s.queryCount}
+	for c := range s.withStreams {
 		c.publish(published)
 	}
 }
 
-// countCommands adds the number of requests to the metrics once a second, since a call for each request takes longer
-// than reading it.
+// countCommands adds the number of requests to the metrics once a second. A call to the metrics for each request would
+// take longer than reading the request.
 func (s *Server) countCommands() {
-	defer s.running.Done()
-	second := time.NewTicker(time.Second)
-	defer second.Stop()
+	defer s.goroutines.Done()
+	secondTicker := time.NewTicker(time.Second)
+	defer secondTicker.Stop()
 	for isClosed := false; !isClosed; {
 		select {
-		case <-second.C:
+		case <-secondTicker.C:
 		case <-s.ctx.Done():
 			isClosed = true
 		}
@@ -211,14 +215,14 @@ func (s *Server) countCommands() {
 	}
 }
 
-// Close disconnects all clients after the frames that wait are sent, or after a second.
+// Close disconnects all clients after the waiting frames are sent, or after a second.
 func (s *Server) Close() {
-	s.stop()
+	s.cancel()
 	s.listener.Close()
 	s.mu.Lock()
 	for c := range s.clients {
 		c.closeAfterQueued()
 	}
 	s.mu.Unlock()
-	s.running.Wait()
+	s.goroutines.Wait()
 }

@@ -16,7 +16,7 @@ import (
 	"kitchenrue.example/serf"
 )
 
-// statusText returns the status of a handler for people.
+// statusText returns the status of a handler in a form for people.
 func statusText(status string) string {
 	if _, err := strconv.ParseUint(status, 10, 32); err == nil {
 		return "exit " + status
@@ -24,7 +24,7 @@ func statusText(status string) string {
 	return strings.ReplaceAll(status, "-", " ")
 }
 
-// kindText returns why a handler ran, if that wasn't the event itself, with a space after it.
+// kindText returns the kind in a handler's name, with a space after it, or "" if the handler ran for the event itself.
 func kindText(handler string) string {
 	if kind, _, ok := strings.Cut(handler, ":"); ok {
 		return kind + " "
@@ -32,8 +32,8 @@ func kindText(handler string) string {
 	return ""
 }
 
-// text returns what became of an event, for people.
-func (o outcome) text() string {
+// stateText returns what became of an event, in a form for people.
+func (o outcome) stateText() string {
 	switch {
 	case len(o.runs) > 0:
 		words := make([]string, 0, len(o.runs))
@@ -51,8 +51,8 @@ func (o outcome) text() string {
 	return string(o.state)
 }
 
-// handlers returns the names of the handlers that are known, for people.
-func (o outcome) handlers() string {
+// handlerNames returns the names of the known handlers in a form for people.
+func (o outcome) handlerNames() string {
 	var names []string
 	for _, run := range o.runs {
 		if run.Handler != "" {
@@ -70,36 +70,38 @@ func isPrintable(text string) bool {
 	return utf8.ValidString(text) && strings.IndexFunc(text, func(r rune) bool { return !unicode.IsPrint(r) }) < 0
 }
 
-// printed returns a text for people: in quotes and escaped if it is empty, can't be printed, or begins or ends with a space or a quote.
-func printed(text string) string {
+// quoteIfNeeded returns a text in a form for people. The text is quoted and escaped if it is empty, can't be printed, or
+// begins or ends with a space or a quote.
+func quoteIfNeeded(text string) string {
 	if text == "" || !isPrintable(text) || strings.Trim(text, ` "`) != text {
 		return strconv.Quote(text)
 	}
 	return text
 }
 
-// Print prints a line for each event of one node, with its handlers, or for each event of several nodes, with a column for each node.
+// Print prints one line for each event. For a single node, the line has the event's handlers. For several nodes, it has
+// a column for each node.
 func Print(out io.Writer, nodes []*Node, filter Filter) error {
 	var text bytes.Buffer
 	table := tabwriter.NewWriter(&text, 0, 0, 2, ' ', 0)
 	write := func(words ...string) { fmt.Fprintln(table, strings.Join(words, "\t")) }
-	head := []string{"TIME", "NAME", "PAYLOAD"}
-	isOne := len(nodes) == 1 && nodes[0].Name == ""
-	if isOne {
-		head = append(head, "STATE", "HANDLERS")
+	header := []string{"TIME", "NAME", "PAYLOAD"}
+	isSingleNode := len(nodes) == 1 && nodes[0].Name == ""
+	if isSingleNode {
+		header = append(header, "STATE", "HANDLERS")
 	} else {
 		for _, n := range nodes {
-			head = append(head, printed(n.Name))
+			header = append(header, quoteIfNeeded(n.Name))
 		}
 	}
-	write(head...)
+	write(header...)
 	for _, row := range rowsOf(nodes, filter) {
-		words := []string{strconv.FormatUint(uint64(row.event.LTime), 10), printed(row.event.Name), printed(string(row.event.Payload))}
+		words := []string{strconv.FormatUint(uint64(row.event.LTime), 10), quoteIfNeeded(row.event.Name), quoteIfNeeded(string(row.event.Payload))}
 		for _, outcome := range row.outcomes {
-			words = append(words, outcome.text())
+			words = append(words, outcome.stateText())
 		}
-		if isOne {
-			words = append(words, row.outcomes[0].handlers())
+		if isSingleNode {
+			words = append(words, row.outcomes[0].handlerNames())
 		}
 		write(words...)
 	}
@@ -110,63 +112,63 @@ func Print(out io.Writer, nodes []*Node, filter Filter) error {
 	return err
 }
 
-// spacesAtEnd are the spaces at the ends of lines, which a table has if the last cell of a line is empty.
+// spacesAtEnd matches the spaces at the end of a line, which a table has if the line's last cell is empty.
 var spacesAtEnd = regexp.MustCompile(`(?m) +$`)
 
-// object is an event at a node, as JSON. docs/AGENT.md describes the keys.
-type object struct {
-	Node       string      `json:"node,omitempty"`
-	Time       uint64      `json:"time"`
-	Name       *string     `json:"name,omitempty"`
-	NameHex    string      `json:"name_hex"`
-	Payload    *string     `json:"payload,omitempty"`
-	PayloadHex string      `json:"payload_hex"`
-	State      string      `json:"state"`
-	Handlers   []handlerAs `json:"handlers,omitempty"`
-	Process    *processAs  `json:"process,omitempty"`
-	IsAgain    bool        `json:"again,omitempty"`
+// jsonEvent is an event at a node, as JSON. docs/AGENT.md describes the keys.
+type jsonEvent struct {
+	Node       string        `json:"node,omitempty"`
+	Time       uint64        `json:"time"`
+	Name       *string       `json:"name,omitempty"`
+	NameHex    string        `json:"name_hex"`
+	Payload    *string       `json:"payload,omitempty"`
+	PayloadHex string        `json:"payload_hex"`
+	State      string        `json:"state"`
+	Handlers   []jsonHandler `json:"handlers,omitempty"`
+	Process    *jsonProcess  `json:"process,omitempty"`
+	IsAgain    bool          `json:"again,omitempty"`
 }
 
-type handlerAs struct {
+type jsonHandler struct {
 	Handler string `json:"handler,omitempty"`
 	Status  string `json:"status"`
 }
 
-type processAs struct {
+type jsonProcess struct {
 	Handler string `json:"handler,omitempty"`
 	PID     int    `json:"pid"`
 }
 
-// asText returns a text if it can be printed.
-func asText(text string) *string {
+// textIfPrintable returns the text, or nil if it can't be printed.
+func textIfPrintable(text string) *string {
 	if !isPrintable(text) {
 		return nil
 	}
 	return &text
 }
 
-// objectOf returns an event at a node.
-func objectOf(node string, e serf.EventRun, o outcome) object {
-	found := object{
-		Node: node, Time: uint64(e.LTime), Name: asText(e.Name), NameHex: hex.EncodeToString([]byte(e.Name)),
-		Payload: asText(string(e.Payload)), PayloadHex: hex.EncodeToString(e.Payload), State: string(o.state), IsAgain: o.isAgain,
+// jsonEventOf returns the JSON object for an event at a node.
+func jsonEventOf(node string, e serf.EventRun, o outcome) jsonEvent {
+	found := jsonEvent{
+		Node: node, Time: uint64(e.LTime), Name: textIfPrintable(e.Name), NameHex: hex.EncodeToString([]byte(e.Name)),
+		Payload: textIfPrintable(string(e.Payload)), PayloadHex: hex.EncodeToString(e.Payload), State: string(o.state), IsAgain: o.isAgain,
 	}
 	for _, run := range o.runs {
-		found.Handlers = append(found.Handlers, handlerAs(run))
+		found.Handlers = append(found.Handlers, jsonHandler{run.Handler, run.Status})
 	}
 	if o.process != nil {
-		found.Process = &processAs{o.process.Handler, o.process.PID}
+		found.Process = &jsonProcess{o.process.Handler, o.process.PID}
 	}
 	return found
 }
 
-// PrintJSON prints an object for each event at each node, one on a line.
+// PrintJSON prints one object for each event at each node, each in a separate line.
 func PrintJSON(out io.Writer, nodes []*Node, filter Filter) error {
 	encoder := json.NewEncoder(out)
 	encoder.SetEscapeHTML(false)
 	for _, row := range rowsOf(nodes, filter) {
 		for i, outcome := range row.outcomes {
-			if err := encoder.Encode(objectOf(nodes[i].Name, row.event, outcome)); err != nil {
+			if err := encoder.Encode(jsonEventOf(nodes[i].Name, row.event, outcome)); err != nil {
 				return err
 			}
 		}

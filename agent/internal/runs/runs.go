@@ -15,18 +15,18 @@ const maxSnapshot = 4 << 30
 
 // Filter selects events. An empty filter selects all.
 type Filter struct {
-	// Name and Payload, if they aren't nil, are those that an event must have.
+	// If Name or Payload isn't nil, an event must have this name, or this payload.
 	Name, Payload *string
-	// Unfinished selects events that have not ended, at one node or more.
+	// Unfinished selects the events that have not ended at one node or more.
 	Unfinished bool
 }
 
-// matches reports whether the filter selects an event, whatever became of it.
+// matches reports whether the filter selects an event by its name and payload. It ignores what became of the event.
 func (f Filter) matches(e serf.EventRun) bool {
 	return (f.Name == nil || *f.Name == e.Name) && (f.Payload == nil || *f.Payload == string(e.Payload))
 }
 
-// Node is a node, and what its snapshot reports of handlers.
+// Node has a node's name, and what the node's snapshot reports about handlers.
 type Node struct {
 	// Name is the node's name. It is empty for a snapshot without one.
 	Name string
@@ -40,10 +40,11 @@ type key struct {
 	name, payload string
 }
 
+// keyOf returns the key that identifies an event.
 func keyOf(e serf.EventRun) key { return key{e.LTime, e.Name, string(e.Payload)} }
 
-// ReadNode reads a snapshot. It doesn't lock or write the file, so a running agent may have it. If an event is twice in it, the first one
-// counts.
+// ReadNode reads a snapshot. It doesn't lock or write the file, so a running agent may have it open. If an event
+// appears twice in the snapshot, the first one counts.
 func ReadNode(name, path string) (*Node, error) {
 	text, err := serfagent.ReadFile(path, maxSnapshot)
 	if err != nil {
@@ -60,7 +61,7 @@ func ReadNode(name, path string) (*Node, error) {
 	return n, nil
 }
 
-// SplitNode reads the argument NODE=FILE, or FILE, for which the name is empty.
+// SplitNode splits an argument NODE=FILE. If the argument is only FILE, the name is empty.
 func SplitNode(argument string) (name, path string, err error) {
 	name, path, ok := strings.Cut(argument, "=")
 	switch {
@@ -72,10 +73,10 @@ func SplitNode(argument string) (name, path string, err error) {
 	return name, path, nil
 }
 
-// ErrMixed is why several snapshots can't be compared.
+// ErrMixed is the error if several snapshots have no names, or two have the same name.
 var ErrMixed = errors.New("several snapshots have to be named NODE=FILE, each with another NODE")
 
-// CheckNames checks that each of several nodes has its own name.
+// CheckNames checks that each of several nodes has a different name.
 func CheckNames(names []string) error {
 	seen := map[string]bool{}
 	for _, name := range names {
@@ -93,16 +94,18 @@ type state string
 // The states. For an event that is done, runs say how its handlers ended.
 const (
 	waiting state = "waiting"
-	// running: its process is running on this machine. cutOff: it was running on this machine, and isn't any more. began: one of both, and the
-	// snapshot doesn't say which.
+	// running means that the handler's process is running on this machine. cutOff means that the process was running on
+	// this machine and has ended. began means one of the two, and the snapshot doesn't say which.
 	running state = "running"
 	cutOff  state = "cut off"
 	began   state = "began"
 	done    state = "done"
-	// neverBegan: the event is done, and it had no handler. unknown: the snapshot doesn't say what became of it.
+	// neverBegan means that the event is done without a handler. unknown means that the snapshot doesn't say what
+	// became of it.
 	neverBegan state = "never began"
 	unknown    state = "unknown"
-	// neverArrived: the node wasn't handed the event. notKept: the snapshot doesn't say whether it was.
+	// neverArrived means that the event was not handed out at the node. notKept means that the snapshot doesn't say
+	// whether it was.
 	neverArrived state = "never arrived"
 	notKept      state = "not kept"
 )
@@ -116,22 +119,22 @@ type outcome struct {
 	state   state
 	runs    []serf.HandlerRun
 	process *serf.HandlerProcess
-	// isAgain: the handler had been cut off before.
+	// isAgain is true if the handler had been cut off before.
 	isAgain bool
 }
 
 // outcomeOf returns what became of an event at the node.
 func (n *Node) outcomeOf(e serf.EventRun) outcome {
-	own, ok := n.byKey[keyOf(e)]
+	eventHere, ok := n.byKey[keyOf(e)]
 	switch {
 	case !ok && e.LTime < n.Minimum:
 		return outcome{state: notKept}
 	case !ok:
 		return outcome{state: neverArrived}
 	}
-	found := outcome{states[own.State], own.Runs, own.Process, own.HasBegunAgain}
-	if own.Process != nil {
-		if isRunning, isKnown := own.Process.IsRunning(), own.Process.IsOfThisBoot(); isRunning {
+	found := outcome{states[eventHere.State], eventHere.Runs, eventHere.Process, eventHere.HasBegunAgain}
+	if eventHere.Process != nil {
+		if isRunning, isKnown := eventHere.Process.IsRunning(), eventHere.Process.IsOfThisBoot(); isRunning {
 			found.state = running
 		} else if isKnown {
 			found.state = cutOff
@@ -140,7 +143,8 @@ func (n *Node) outcomeOf(e serf.EventRun) outcome {
 	return found
 }
 
-// isUnfinished reports whether the event waits for its handlers, is handled, was cut off and not handled again, or never arrived.
+// isUnfinished reports whether the event is waiting for its handlers or being handled, was cut off and not handled
+// again, or never arrived.
 func (o outcome) isUnfinished() bool {
 	switch o.state {
 	case waiting, running, cutOff, began, neverArrived:
@@ -159,22 +163,22 @@ type row struct {
 	outcomes []outcome
 }
 
-// rowsOf returns the events of the nodes that the filter selects, by time. Events of one time are in the order of the first node that has
-// them.
+// rowsOf returns the events of the nodes that the filter selects, by time. Events with the same time are in the order
+// of the first node that has them.
 func rowsOf(nodes []*Node, filter Filter) (rows []row) {
-	next, seen := make([]int, len(nodes)), map[key]bool{}
+	nextIndex, seen := make([]int, len(nodes)), map[key]bool{}
 	for {
 		first := -1
 		for i, n := range nodes {
-			if next[i] < len(n.Events) && (first < 0 || n.Events[next[i]].LTime < nodes[first].Events[next[first]].LTime) {
+			if nextIndex[i] < len(n.Events) && (first < 0 || n.Events[nextIndex[i]].LTime < nodes[first].Events[nextIndex[first]].LTime) {
 				first = i
 			}
 		}
 		if first < 0 {
 			return rows
 		}
-		event := nodes[first].Events[next[first]]
-		next[first]++
+		event := nodes[first].Events[nextIndex[first]]
+		nextIndex[first]++
 		if seen[keyOf(event)] || !filter.matches(event) {
 			continue
 		}

@@ -13,8 +13,8 @@ import (
 	"kitchenrue.example/serf"
 )
 
-// read reads snapshots with these texts, by the names of their nodes.
-func read(t *testing.T, texts ...[2]string) (nodes []*Node) {
+// readNodes reads snapshots with these texts, by the names of their nodes.
+func readNodes(t *testing.T, texts ...[2]string) (nodes []*Node) {
 	t.Helper()
 	for _, text := range texts {
 		node, err := ReadNode(text[0], testkit.Write(t, filepath.Join(t.TempDir(), "snapshot"), text[1]))
@@ -24,8 +24,8 @@ func read(t *testing.T, texts ...[2]string) (nodes []*Node) {
 	return nodes
 }
 
-// samePrinted compares what is printed, without the spaces that align it.
-func samePrinted(t *testing.T, nodes []*Node, filter Filter, want ...string) {
+// checkPrinted compares the printed table with the wanted lines, without the spaces that align the table.
+func checkPrinted(t *testing.T, nodes []*Node, filter Filter, want ...string) {
 	t.Helper()
 	var out bytes.Buffer
 	testkit.Must(t, Print(&out, nodes, filter))
@@ -46,24 +46,24 @@ func samePrinted(t *testing.T, nodes []*Node, filter Filter, want ...string) {
 
 const began0 = "#done 0\n#ran 0\n"
 
-// self is the process of the test, as a line has it.
-func self(t *testing.T) string {
+// ownProcess returns the test's own process, in the form of a line of the snapshot.
+func ownProcess(t *testing.T) string {
 	t.Helper()
 	process, err := serf.ProcessOf("", os.Getpid())
 	testkit.Must(t, err)
 	return fmt.Sprintf("%d %d %s", process.PID, process.Start, process.Boot)
 }
 
-// One node has a line for each event: its time, its name, its payload, what became of it, and its handlers.
+// For a single node, each event has a line: its time, its name, its payload, what became of it, and its handlers.
 func TestOneNode(t *testing.T) {
-	other := strings.Replace(self(t), " ", " 9", 1)
+	other := strings.Replace(ownProcess(t), " ", " 9", 1)
 	text := began0 + "#event 9 6c617374 78\n#event 1 6f6b \n#begun 1 6f6b \n#done 1 6f6b \n#ran 1 6f6b  deploy=0 notify=3\n" +
 		"#event 2 6e6f6e65 0a1b5b\n#done 2 6e6f6e65 0a1b5b\n" +
 		"#event 3 637574 2220\n#ran 3 637574 2220 deploy=cut-off rerun:deploy=signal-9\n#done 3 637574 2220\n" +
-		"#event 4 63 61\n#ran 4 63 61 =cut-off\n#done 4 63 61\n#event 5 72 62\n#begun 5 72 62\n#process 5 72 62 deploy " + self(t) + "\n" +
+		"#event 4 63 61\n#ran 4 63 61 =cut-off\n#done 4 63 61\n#event 5 72 62\n#begun 5 72 62\n#process 5 72 62 deploy " + ownProcess(t) + "\n" +
 		"#event 6 72 62\n#begun 6 72 62\n#process 6 72 62 deploy " + other + "\n#event 7 72 62\n#begun 7 72 62\n#begun 7 72 62\n#process 7 72 62 unfinished:deploy 1 2 another-boot\n" +
 		"#event 8 72 62\n#begun 8 72 62\n#begun 8 72 62\n"
-	nodes := read(t, [2]string{"", text})
+	nodes := readNodes(t, [2]string{"", text})
 	pid := fmt.Sprint(os.Getpid())
 	all := []string{
 		"TIME|NAME|PAYLOAD|STATE|HANDLERS",
@@ -77,25 +77,26 @@ func TestOneNode(t *testing.T) {
 		"8|r|b|cut off, rerun began",
 		"9|last|x|waiting",
 	}
-	samePrinted(t, nodes, Filter{}, all...)
-	samePrinted(t, nodes, Filter{Unfinished: true}, append([]string{all[0]}, all[4:]...)...)
+	checkPrinted(t, nodes, Filter{}, all...)
+	checkPrinted(t, nodes, Filter{Unfinished: true}, append([]string{all[0]}, all[4:]...)...)
 	name, payload, empty := "r", "b", ""
-	samePrinted(t, nodes, Filter{Name: &name, Payload: &payload}, all[0], all[5], all[6], all[7], all[8])
-	samePrinted(t, nodes, Filter{Payload: &empty}, all[0], all[1])
-	samePrinted(t, nodes, Filter{Name: &empty}, all[0])
+	checkPrinted(t, nodes, Filter{Name: &name, Payload: &payload}, all[0], all[5], all[6], all[7], all[8])
+	checkPrinted(t, nodes, Filter{Payload: &empty}, all[0], all[1])
+	checkPrinted(t, nodes, Filter{Name: &empty}, all[0])
 }
 
-// Several nodes have a column each, and an event one line. An event that isn't in a snapshot never arrived, if the snapshot would have it.
+// For several nodes, each node has a column, and each event has one line. If an event isn't in a snapshot that would
+// have kept it, the event never arrived at that node.
 func TestSeveralNodes(t *testing.T) {
 	event := func(time int, payload string) string {
 		return fmt.Sprintf("#event %d 6465706c6f79 %x\n#begun %d 6465706c6f79 %x\n", time, payload, time, payload)
 	}
-	ended := func(time int, payload, status string) string {
+	ranLines := func(time int, payload, status string) string {
 		return event(time, payload) + fmt.Sprintf("#done %d 6465706c6f79 %x\n#ran %d 6465706c6f79 %x deploy=%s\n", time, payload, time, payload, status)
 	}
-	nodes := read(t,
-		[2]string{"web1", began0 + ended(1, "v1", "0") + ended(2, "v2", "0") + ended(3, "v3", "0") + ended(3, "w3", "0")},
-		[2]string{"web2", began0 + ended(2, "v2", "cut-off") + ended(2, "w2", "0") + ended(3, "w3", "0") + ended(3, "v3", "7")},
+	nodes := readNodes(t,
+		[2]string{"web1", began0 + ranLines(1, "v1", "0") + ranLines(2, "v2", "0") + ranLines(3, "v3", "0") + ranLines(3, "w3", "0")},
+		[2]string{"web2", began0 + ranLines(2, "v2", "cut-off") + ranLines(2, "w2", "0") + ranLines(3, "w3", "0") + ranLines(3, "v3", "7")},
 		[2]string{"web3", began0 + "#least event-clock: 2\n" + "#event 3 6465706c6f79 7633\n#event 4 6465706c6f79 7634\n"},
 		[2]string{"web4", "event-clock: 1\n"}, [2]string{"an\nodd", "#event 2 6465706c6f79 7632\n"},
 	)
@@ -106,16 +107,16 @@ func TestSeveralNodes(t *testing.T) {
 		"3|deploy|v3|exit 0|exit 7|waiting|never arrived|never arrived", "3|deploy|w3|exit 0|exit 0|never arrived|never arrived|never arrived",
 		"4|deploy|v4|never arrived|never arrived|waiting|never arrived|never arrived",
 	}
-	samePrinted(t, nodes, Filter{}, append([]string{head}, lines...)...)
+	checkPrinted(t, nodes, Filter{}, append([]string{head}, lines...)...)
 	payload := "v2"
-	samePrinted(t, nodes, Filter{Payload: &payload}, head, lines[1])
-	samePrinted(t, nodes[:2], Filter{Unfinished: true}, "TIME|NAME|PAYLOAD|web1|web2", "1|deploy|v1|exit 0|never arrived", "2|deploy|v2|exit 0|cut off", "2|deploy|w2|never arrived|exit 0")
-	samePrinted(t, nodes[:1], Filter{Unfinished: true}, "TIME|NAME|PAYLOAD|web1")
+	checkPrinted(t, nodes, Filter{Payload: &payload}, head, lines[1])
+	checkPrinted(t, nodes[:2], Filter{Unfinished: true}, "TIME|NAME|PAYLOAD|web1|web2", "1|deploy|v1|exit 0|never arrived", "2|deploy|v2|exit 0|cut off", "2|deploy|w2|never arrived|exit 0")
+	checkPrinted(t, nodes[:1], Filter{Unfinished: true}, "TIME|NAME|PAYLOAD|web1")
 }
 
 // As JSON, each event at each node is an object.
 func TestJSON(t *testing.T) {
-	nodes := read(t,
+	nodes := readNodes(t,
 		[2]string{"web1", began0 + "#event 1 3c62 ff\n#ran 1 3c62 ff deploy=0 =cut-off\n#done 1 3c62 ff\n#event 2 62 \n#begun 2 62 \n#begun 2 62 \n#process 2 62  x 7 8 b\n"},
 		[2]string{"web2", began0 + "#event 1 3c62 ff\n"},
 	)
@@ -137,7 +138,7 @@ func TestJSON(t *testing.T) {
 	}
 }
 
-// Of snapshots that can't be read, the error has the path. A folder or a pipe isn't read.
+// If a snapshot can't be read, the error has its path. A folder or a device is not read.
 func TestUnreadableSnapshots(t *testing.T) {
 	folder := t.TempDir()
 	for _, path := range []string{folder, filepath.Join(folder, "none"), "/dev/zero"} {

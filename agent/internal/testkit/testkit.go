@@ -1,4 +1,4 @@
-// Package testkit has what the agent's tests share.
+// Package testkit has helpers that the agent's tests share.
 package testkit
 
 import (
@@ -10,7 +10,7 @@ import (
 	"time"
 )
 
-// Must ends the test if err is an error, and Check lets it continue.
+// Must ends the test if err isn't nil.
 func Must(t testing.TB, err error) {
 	t.Helper()
 	if err != nil {
@@ -18,7 +18,7 @@ func Must(t testing.TB, err error) {
 	}
 }
 
-// Check reports an error.
+// Check reports err if it isn't nil, and lets the test continue.
 func Check(t testing.TB, err error) {
 	t.Helper()
 	if err != nil {
@@ -26,7 +26,7 @@ func Check(t testing.TB, err error) {
 	}
 }
 
-// Eventually waits until holds returns true. It fails after two minutes.
+// Eventually waits until the condition holds. The test fails after two minutes.
 func Eventually(t testing.TB, what string, holds func() bool) {
 	t.Helper()
 	for i := 0; i < 12000; i++ {

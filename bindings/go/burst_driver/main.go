@@ -1,4 +1,5 @@
-// Bursts, some of which run out of memory. tests/library/embed/burst_driver.c describes the output.
+// This program makes bursts, and some of them run out of memory. tests/library/embed/burst_driver.c describes its
+// output.
 package main
 
 import (
@@ -10,18 +11,21 @@ import (
 	"kitchenrue.example/serfagent"
 )
 
+// check ends the program if err isn't nil.
 func check(err error) {
 	if err != nil {
 		log.Fatal(err)
 	}
 }
 
+// open opens an agent on its snapshot in the program's folder.
 func open(name string) *serfagent.Agent {
 	agent, err := serfagent.Open(name, filepath.Join(os.Args[1], name+".snapshot"), serfagent.DefaultSettings())
 	check(err)
 	return agent
 }
 
+// describeQuery adds to a text whether the query was handed out and acked.
 func describeQuery(text string, query *serfagent.PendingQuery, ack []byte) string {
 	if query != nil {
 		text += fmt.Sprintf(" %d %s handed", query.Time, query.Name)
@@ -32,6 +36,7 @@ func describeQuery(text string, query *serfagent.PendingQuery, ack []byte) strin
 	return text
 }
 
+// describe returns a line for the outcome of a call.
 func describe(outcome serfagent.Outcome) string {
 	if code, ok := outcome.Err.(serfagent.Code); ok {
 		return fmt.Sprintf("refused %d", uint32(code))
@@ -71,7 +76,7 @@ func runBurst(agent *serfagent.Agent, burst *serfagent.Burst) []serfagent.Outcom
 	result := "ok"
 	if err == serfagent.OutOfMemory {
 		result = fmt.Sprintf("out of memory %d", len(outcomes))
-		// The burst may be filled again. Another one is refused until these outcomes are read.
+		// The burst may be filled again. The agent refuses another burst until these outcomes are read.
 		burst.Reset()
 		unread, err := agent.UnreadOutcomes()
 		check(err)
@@ -96,32 +101,34 @@ func runBurst(agent *serfagent.Agent, burst *serfagent.Burst) []serfagent.Outcom
 	return outcomes
 }
 
-func runStarved(third *serfagent.Agent, events [][]byte, load []byte) {
+// runStarved runs two bursts of calls on the third agent, which may run out of memory.
+func runStarved(third *serfagent.Agent, eventPackets [][]byte, loadPacket []byte) {
 	for i := 0; i < 2; i++ {
 		var burst serfagent.Burst
-		for _, packet := range events {
+		for _, packet := range eventPackets {
 			burst.Receive(5, packet, false)
 		}
-		burst.Receive(5, load, false)
+		burst.Receive(5, loadPacket, false)
 		burst.Fire([]byte("own"), nil, false)
 		filters := [][]byte{[]byte("\x00\x91\xa5" + []string{"other", "third"}[i])}
 		burst.Query(5, 9, []byte("load"), nil, serfagent.QueryParams{Timeout: 9, WantAck: true, Filters: filters})
-		burst.Receive(5, events[0], false)
+		burst.Receive(5, eventPackets[0], false)
 		runBurst(third, &burst)
 	}
 }
 
-func runAll(sender, receiver *serfagent.Agent, events [][]byte, load, state []byte) {
+// runAll runs bursts with calls of each kind, refused ones too, on the receiver, and then on the sender.
+func runAll(sender, receiver *serfagent.Agent, eventPackets [][]byte, loadPacket, state []byte) {
 	var burst serfagent.Burst
-	for _, packet := range [][]byte{events[0], nil, events[1], events[0], []byte("\x03\x81\xa5LTim"), load, {0}, state} {
+	for _, packet := range [][]byte{eventPackets[0], nil, eventPackets[1], eventPackets[0], []byte("\x03\x81\xa5LTim"), loadPacket, {0}, state} {
 		burst.Receive(5, packet, false)
 	}
 	burst.Fire([]byte("own"), nil, false)
 	burst.Fire(make([]byte, 600), nil, false)
-	burst.Query(5, 9, []byte("load"), nil, serfagent.QueryParams{WantAck: true})
+	burst.Query(5, 9, []byte("load"), nil, serfagent.QueryParams{Timeout: -1, WantAck: true})
 	filters := [][]byte{[]byte("\x00\x91\xa5other")}
 	burst.Query(5, 9, []byte("load"), nil, serfagent.QueryParams{Timeout: 9, WantAck: true, Filters: filters})
-	burst.Receive(5, events[2], false)
+	burst.Receive(5, eventPackets[2], false)
 	outcomes := runBurst(receiver, &burst)
 	reply, err := receiver.Respond(5, outcomes[5].Received.Query.Number, []byte("yes"))
 	check(err)
@@ -140,19 +147,19 @@ func main() {
 		log.Fatal("burst_driver FOLDER")
 	}
 	sender := open("one")
-	var events [][]byte
+	var eventPackets [][]byte
 	for i := 0; i < 5; i++ {
 		_, packet, err := sender.Fire([]byte(fmt.Sprintf("e%d", i)), nil, false)
 		check(err)
-		events = append(events, packet)
+		eventPackets = append(eventPackets, packet)
 	}
 	load, err := sender.Query(1, 8, []byte("load"), nil, serfagent.QueryParams{Timeout: 1000, WantAck: true})
 	check(err)
 	state, err := sender.LocalState(nil, nil)
 	check(err)
 	third, receiver := open("third"), open("other")
-	runStarved(third, events, load.Packet)
-	runAll(sender, receiver, events, load.Packet, state)
+	runStarved(third, eventPackets, load.Packet)
+	runAll(sender, receiver, eventPackets, load.Packet, state)
 	check(third.Close())
 	check(receiver.Close())
 	check(sender.Close())

@@ -1,9 +1,10 @@
-// Two agents in one process that are joined by hand. An event is fired and arrives twice, its agent crashes and starts
-// again, and nothing is handed out twice. A query is answered, and closed.
+// This program runs two agents in one process, and carries their packets and states by hand. One agent fires an event,
+// which arrives at the other one several times. In between, the second agent crashes and starts again, and nothing is
+// handed out twice. One agent fires a query, the other one answers it, and the query is closed after its deadline.
 //
 //	go run ./example FOLDER
 //
-// FOLDER gets the two snapshots. If they exist already, the agents resume from them.
+// The agents keep their two snapshots in FOLDER. If these exist already, the agents resume from them.
 package main
 
 import (
@@ -20,12 +21,14 @@ type node struct {
 	agent *serfagent.Agent
 }
 
+// check ends the program if err isn't nil.
 func check(err error) {
 	if err != nil {
 		log.Fatal(err)
 	}
 }
 
+// open opens the agent of a node on its snapshot in the program's folder.
 func open(name string) *node {
 	agent, err := serfagent.Open(name, filepath.Join(os.Args[1], name+".snapshot"), serfagent.DefaultSettings())
 	check(err)
@@ -39,6 +42,7 @@ func (n *node) handle(events ...*serfagent.Event) {
 	}
 }
 
+// join merges the other node's state, and handles the events that are new here.
 func (n *node) join(other *node) {
 	state, err := other.agent.LocalState(nil, nil)
 	check(err)
@@ -48,6 +52,7 @@ func (n *node) join(other *node) {
 	fmt.Printf("%s joined %s\n", n.name, other.name)
 }
 
+// fire fires an event, handles it on this node, and returns the packet to send.
 func (n *node) fire(name, payload string) []byte {
 	event, packet, err := n.agent.Fire([]byte(name), []byte(payload), false)
 	check(err)
@@ -55,6 +60,7 @@ func (n *node) fire(name, payload string) []byte {
 	return packet
 }
 
+// deliver passes a packet to the node, and handles its event or prints why the packet is ignored.
 func (n *node) deliver(now uint64, packet []byte) {
 	received, err := n.agent.Receive(now, packet, false)
 	check(err)
@@ -106,7 +112,7 @@ func main() {
 	beta.deliver(1, packet)
 	beta.deliver(2, packet)
 
-	// Only its file is left.
+	// This ends the agent as a crash would: only its file is left.
 	beta.agent.Close()
 	beta = open("beta")
 	clocks, err := beta.agent.Clocks()

@@ -14,8 +14,8 @@ import (
 	"github.com/hashicorp/memberlist"
 )
 
-// provingGuard makes a guard around a transport in memory at 10.0.0.1. New nodes have to prove their addresses to it. The
-// transport at 10.0.0.9 receives its pings.
+// provingGuard makes a guard around a transport in memory at 10.0.0.1. New nodes have to prove their addresses to the
+// guard. The transport at 10.0.0.9 receives the guard's pings.
 func provingGuard(t *testing.T, isKeyed bool, settings Settings) (g *Transport, inner, other *memoryTransport) {
 	network := new(memoryNet)
 	inner, other = network.add(1), network.add(9)
@@ -29,8 +29,8 @@ func newcomer(name string) []byte {
 	return alive(name, map[string]any{"Addr": []byte{10, 0, 0, 9}, "Port": memoryPort})
 }
 
-// pingIn decodes a ping of the guard's.
-func pingIn(t *testing.T, packet *memberlist.Packet, isKeyed bool) (number uint32, name string) {
+// decodePing decodes a ping that the guard sent.
+func decodePing(t *testing.T, packet *memberlist.Packet, isKeyed bool) (number uint32, name string) {
 	t.Helper()
 	if packet == nil {
 		t.Fatal("there is no ping")
@@ -53,7 +53,8 @@ func pingIn(t *testing.T, packet *memberlist.Packet, isKeyed bool) (number uint3
 	return ping.SeqNo, ping.Node
 }
 
-func nextOf(m *memoryTransport, wait time.Duration) *memberlist.Packet {
+// nextReceived returns the next packet that a transport receives, or nil if none arrives within wait.
+func nextReceived(m *memoryTransport, wait time.Duration) *memberlist.Packet {
 	select {
 	case packet := <-m.packets:
 		return packet
@@ -62,12 +63,13 @@ func nextOf(m *memoryTransport, wait time.Duration) *memberlist.Packet {
 	}
 }
 
+// ackOf returns the ack of the ping with this sequence number.
 func ackOf(number uint32) []byte {
 	return message(msgAck, map[string]any{"SeqNo": number, "Payload": []byte("coordinate")})
 }
 
-// memberlist learns of a new node only after the node has answered a ping, and then of what was said of it since. The ping
-// is no longer than the message that caused it.
+// memberlist learns of a new node only after the node has answered a ping. After that, it also receives the messages
+// about the node that arrived in the meantime. The ping is no longer than the message that caused it.
 func TestNewNodeHasToAnswer(t *testing.T) {
 	for _, isKeyed := range []bool{false, true} {
 		c := &child{childOptions: childOptions{IsKeyed: isKeyed}}
@@ -75,8 +77,8 @@ func TestNewNodeHasToAnswer(t *testing.T) {
 		from := &net.UDPAddr{IP: net.IP{10, 0, 0, 7}, Port: memoryPort}
 		packet := c.seal(newcomer("new"))
 		inner.receive(packet, from)
-		sent := nextOf(other, time.Minute)
-		number, name := pingIn(t, sent, isKeyed)
+		sent := nextReceived(other, time.Minute)
+		number, name := decodePing(t, sent, isKeyed)
 		if name != "new" || len(sent.Buf) > len(packet) {
 			t.Errorf("a ping of %d bytes for %q after a packet of %d", len(sent.Buf), name, len(packet))
 		}
@@ -101,7 +103,7 @@ func TestNewNodeHasToAnswer(t *testing.T) {
 			}
 			passed = append(passed, plain...)
 		}
-		// (the encoding of go-msgpack has the fields in another order)
+		// (go-msgpack encodes the fields in another order, so the test only looks for parts)
 		for _, text := range []string{"\x08\x05", "Node\xa3new", "Meta\xa4meta", "Addr\xa4\x0a\x00\x00\x09", "From\xa1x"} {
 			if !bytes.Contains(passed, []byte(text)) {
 				t.Errorf("%q is not in what passes: %q", text, passed)
@@ -110,7 +112,7 @@ func TestNewNodeHasToAnswer(t *testing.T) {
 		if bytes.Contains(passed, []byte("coordinate")) {
 			t.Error("memberlist gets the ack")
 		}
-		// memberlist reports it, and then each report of it passes.
+		// After memberlist has reported the node, each report of it passes.
 		g.members.NotifyJoin(&memberlist.Node{Name: "new", Addr: net.IP{10, 0, 0, 9}, Port: memoryPort})
 		inner.receive(packet, from)
 		if got := nextPacket(g, time.Minute); got == nil || !bytes.Equal(got.Buf, packet) {
@@ -127,14 +129,14 @@ func TestNewNodeHasToAnswer(t *testing.T) {
 	}
 }
 
-// A node that doesn't answer is pinged three times, then counted, and not pinged again for a while. Meanwhile its number has no
-// effect, so that there are few numbers to guess.
+// A node that doesn't answer is pinged three times, then counted, and not pinged again for a while. During that time,
+// an ack with its number has no effect, so that there are few numbers to guess.
 func TestSilentNode(t *testing.T) {
 	g, inner, other := provingGuard(t, false, Settings{})
 	inner.receive(newcomer("new"), nil)
-	number, _ := pingIn(t, nextOf(other, time.Minute), false)
+	number, _ := decodePing(t, nextReceived(other, time.Minute), false)
 	for n := 1; n < 3; n++ {
-		if again, _ := pingIn(t, nextOf(other, time.Minute), false); again != number {
+		if again, _ := decodePing(t, nextReceived(other, time.Minute), false); again != number {
 			t.Errorf("the number changed from %d to %d", number, again)
 		}
 	}
@@ -143,23 +145,23 @@ func TestSilentNode(t *testing.T) {
 		inner.receive(newcomer("new"), nil)
 	}
 	eventually(t, "its reports aren't counted", func() bool { return g.Drops()[Unproven] == 6 })
-	if nextOf(other, 700*time.Millisecond) != nil {
+	if nextReceived(other, 700*time.Millisecond) != nil {
 		t.Error("it is pinged again")
 	}
 	inner.receive(ackOf(number), nil)
 	eventually(t, "a late answer has an effect", func() bool { return g.Drops()[Unasked] == 1 })
 	g.candidates.mu.Lock()
-	g.candidates.queue[0].since = time.Now().Add(-silentTime)
+	g.candidates.queue[0].reportedAt = time.Now().Add(-silentTime)
 	g.candidates.mu.Unlock()
 	eventually(t, "it stays silent", func() bool { return g.candidates.count.Load() == 0 })
 	inner.receive(newcomer("new"), nil)
-	if again, _ := pingIn(t, nextOf(other, time.Minute), false); again == number {
+	if again, _ := decodePing(t, nextReceived(other, time.Minute), false); again == number {
 		t.Error("a number is used again")
 	}
 }
 
-// However many nodes are reported, the pings and what is kept of the nodes have a limit, also at a single address. The
-// limits of one origin leave room for the others, and for the host itself.
+// However many nodes are reported, the number of pings and of kept nodes is limited, both in total and for a single
+// address. The limits of one origin leave room for the other origins, and for the host itself.
 func TestFloodOfCandidates(t *testing.T) {
 	// (nobody requests the channels of these guards, so nothing is sent, and no goroutine but this one uses the candidates)
 	g := testAround(t, new(memoryNet).add(1), false, Settings{})
@@ -167,7 +169,7 @@ func TestFloodOfCandidates(t *testing.T) {
 		return netip.AddrPortFrom(netip.AddrFrom4([4]byte{10, 9, byte(i >> 8), byte(i)}), 7)
 	}
 	peer := func(i int) netip.Addr { return netip.AddrFrom4([4]byte{10, 8, byte(i >> 8), byte(i)}) }
-	var added [origins]int
+	var added [originCount]int
 	add := func(i int, from origin, target netip.AddrPort, by netip.Addr) bool {
 		_, reason := g.candidates.add(nameAt{fmt.Sprint(from, " ", i), target}, from, by, nil, []byte{msgUser}, nil)
 		if reason == held {
@@ -178,7 +180,7 @@ func TestFloodOfCandidates(t *testing.T) {
 		return reason == held
 	}
 	began := time.Now()
-	for from := fromDialed; from < origins; from++ {
+	for from := fromDialed; from < originCount; from++ {
 		for i := 0; i < 20_000; i++ {
 			add(i, from, at(i), peer(i))
 		}
@@ -190,14 +192,14 @@ func TestFloodOfCandidates(t *testing.T) {
 		}
 	}
 	g = testAround(t, new(memoryNet).add(1), false, Settings{NamesPerAddress: 10})
-	added = [origins]int{}
+	added = [originCount]int{}
 	for i := 0; i < 100; i++ {
 		for _, from := range []origin{fromDialed, fromMember, fromStranger} {
 			add(i, from, at(1), netip.Addr{})
 		}
 		add(i, fromAccepted, at(1), peer(1))
 	}
-	if added != [origins]int{10, 10, 10, 10} {
+	if added != [originCount]int{10, 10, 10, 10} {
 		t.Errorf("%v candidates at one address", added)
 	}
 	if !add(1000, fromAccepted, at(1), peer(2)) {
@@ -210,10 +212,10 @@ func TestFloodOfCandidates(t *testing.T) {
 		t.Errorf("one host reports %d candidates", added[fromAccepted]-11)
 	}
 	for _, old := range g.candidates.queue {
-		old.since, old.pings = old.since.Add(-silentTime), maxPings
+		old.reportedAt, old.pings = old.reportedAt.Add(-silentTime), maxPings
 	}
-	g.candidates.due(time.Now())
-	g.candidates.due(time.Now())
+	g.candidates.takeDue(time.Now())
+	g.candidates.takeDue(time.Now())
 	if c := g.candidates; c.count.Load() != 0 || len(c.byKey)+len(c.byNumber)+len(c.limits)+len(c.queue) != 0 {
 		t.Errorf("%d candidates are left", c.count.Load())
 	}
@@ -235,7 +237,8 @@ func TestSilentNodeOfAnotherOrigin(t *testing.T) {
 	}
 }
 
-// One IP address has a limited number of names, on all its ports, and a node that is among them is always admitted.
+// One IP address may have only a limited number of names, on all its ports together. A node with one of these names is
+// always admitted.
 func TestNamesPerAddress(t *testing.T) {
 	g, _, _ := provingGuard(t, false, Settings{NamesPerAddress: 3})
 	admit := func(name string, port uint16) Reason {
@@ -253,7 +256,7 @@ func TestNamesPerAddress(t *testing.T) {
 	g.members.NotifyJoin(node("left", 1))
 	g.members.NotifyLeave(node("left", 1))
 	for name, want := range map[string]Reason{"more": Names, "alive": none, "left": none, "admitted": none} {
-		if reason := g.members.mayAdmit(nameAt{name, netip.MustParseAddrPort("10.0.0.9:9")}); reason != want {
+		if reason := g.members.refusalAfterProof(nameAt{name, netip.MustParseAddrPort("10.0.0.9:9")}); reason != want {
 			t.Errorf("%s: %v", name, reason)
 		}
 	}
@@ -268,7 +271,7 @@ func TestRoomForAProvenNode(t *testing.T) {
 	settings := Settings{Members: 4, Known: func(string) (int, bool) { return members, false }}
 	node := nameAt{"new", netip.MustParseAddrPort("10.0.0.9:7946")}
 	g, _, _ := provingGuard(t, false, settings)
-	if reason := g.members.mayAdmit(node); reason != Full {
+	if reason := g.members.refusalAfterProof(node); reason != Full {
 		t.Errorf("without MakeRoom: %v", reason)
 	}
 	settings.MakeRoom = func() bool {
@@ -277,7 +280,7 @@ func TestRoomForAProvenNode(t *testing.T) {
 		return calls == 1
 	}
 	g, _, _ = provingGuard(t, false, settings)
-	if reason := g.members.mayAdmit(node); reason != none || calls != 0 {
+	if reason := g.members.refusalAfterProof(node); reason != none || calls != 0 {
 		t.Errorf("before it is proven: %v, %d calls", reason, calls)
 	}
 	if reason := g.members.admit(node); reason != none || calls != 1 {
@@ -301,18 +304,18 @@ func TestAddressOfAReport(t *testing.T) {
 		{net.IP{10, 0, 0, 9}, 5, "10.0.0.9:5"}, {net.IP{10, 0, 0, 9}.To16(), 5, "10.0.0.9:5"}, {net.IP{10, 0, 0, 9}, 0, "10.0.0.9:7946"},
 		{net.ParseIP("2001:db8::1"), 5, "[2001:db8::1]:5"},
 	} {
-		if got := g.at(&report{addr: test.addr, port: test.port}).addr.String(); got != test.want {
+		if got := g.nodeOf(&report{addr: test.addr, port: test.port}).addr.String(); got != test.want {
 			t.Errorf("%v, port %d: %s", test.addr, test.port, got)
 		}
 	}
 	g.protocol = 1
-	if got := g.at(&report{addr: net.IP{10, 0, 0, 9}, port: 5}).addr.Port(); got != 7946 {
+	if got := g.nodeOf(&report{addr: net.IP{10, 0, 0, 9}, port: 5}).addr.Port(); got != 7946 {
 		t.Errorf("protocol 1: port %d", got)
 	}
 }
 
-// Forged nodes don't become members of a guarded node, and so not of a stock node next to it. Meanwhile guarded and stock
-// nodes join, and they do afterwards.
+// Forged nodes don't become members at a guarded node, and so not at a stock node in the same cluster either. During
+// the attack and after it, guarded and stock nodes can still join.
 func TestForgedNodesStayOut(t *testing.T) {
 	for _, isKeyed := range []bool{false, true} {
 		start := func(name string, isStock bool) *child {
@@ -333,7 +336,7 @@ func TestForgedNodesStayOut(t *testing.T) {
 				forged := map[string]any{"Addr": []byte{127, 1, byte(count >> 8), byte(count)}}
 				victim.udp.Write(victim.seal(alive(fmt.Sprint("forged", count), forged)))
 				if count%1000 == 999 {
-					entry := node(fmt.Sprint("forged", count), with(forged, map[string]any{"State": 0}))
+					entry := node(fmt.Sprint("forged", count), withChanges(forged, map[string]any{"State": 0}))
 					victim.call(victim.sealStream(pushPullOf([]map[string]any{entry}, nil)), true)
 				}
 			}
@@ -361,8 +364,8 @@ func TestForgedNodesStayOut(t *testing.T) {
 	}
 }
 
-// When a join returns, the node knows all members, although each had to answer a ping. (On a busy machine, some may answer too
-// late for one join, but not for ten.)
+// When a join returns, the node knows all members, although each of them had to answer a ping. (On a busy machine, some
+// may answer too late for one join, but not for all of ten.)
 func TestJoinKnowsAllMembers(t *testing.T) {
 	network := new(memoryNet)
 	start := func(n int) *memberlist.Memberlist {
@@ -394,8 +397,8 @@ func TestJoinKnowsAllMembers(t *testing.T) {
 	t.Errorf("after the join of the last of 20 nodes it knows %d members", known)
 }
 
-// A join that is refused fails with a sentence, at a stock node too: the table of members is full, or the address that the
-// node reports doesn't answer.
+// A refused join fails with an error that says why, at a stock node too: either the table of members is full, or the
+// address that the node reports doesn't answer.
 func TestRefusedJoin(t *testing.T) {
 	for i := 0; i < 4; i++ {
 		isKeyed, isStock := i&1 != 0, i&2 != 0
@@ -431,8 +434,8 @@ func TestMergeSeesNewNodes(t *testing.T) {
 	conn := <-g.StreamCh()
 	defer conn.Close()
 	go func() {
-		if packet := nextOf(other, time.Minute); packet != nil {
-			number, _ := pingIn(t, packet, false)
+		if packet := nextReceived(other, time.Minute); packet != nil {
+			number, _ := decodePing(t, packet, false)
 			inner.receive(ackOf(number), nil)
 		}
 	}()
@@ -450,7 +453,7 @@ func TestPingsEachSecond(t *testing.T) {
 	now, taken := time.Now(), 0
 	for second := 0; second < 3; second++ {
 		for i := 0; i < 100; i++ {
-			if b.takes(now.Add(time.Duration(second)*time.Second), 20, 5) {
+			if b.takeIfAllowed(now.Add(time.Duration(second)*time.Second), 20, 5) {
 				taken++
 			}
 		}
@@ -469,9 +472,9 @@ func TestQuietCandidates(t *testing.T) {
 		want            bool
 	}{{0, -1, false}, {interval, 0, false}, {interval, interval, true}, {interval, interval / 10, false}, {2 * interval, interval, false}} {
 		waiting := newGroup()
-		waiting.since = now.Add(-test.since)
+		waiting.pingsBeganAt = now.Add(-test.since)
 		if test.answered >= 0 {
-			waiting.answeredAt = now.Add(-test.answered)
+			waiting.lastAnswerAt = now.Add(-test.answered)
 		}
 		if got := g.candidates.isQuiet(waiting); got != test.want {
 			t.Errorf("pinged %v ago, the last answer %v ago: %v", test.since, test.answered, got)
@@ -479,13 +482,13 @@ func TestQuietCandidates(t *testing.T) {
 	}
 }
 
-// Of a push/pull that is refused as a whole, memberlist doesn't get the entries either.
+// If a push/pull is refused as a whole, memberlist doesn't receive any of its entries.
 func TestBrokenPushPull(t *testing.T) {
 	g, inner, other := provingGuard(t, false, Settings{})
 	entry := map[string]any{"State": 0, "Addr": []byte{10, 0, 0, 9}, "Port": memoryPort}
 	broken := append(message(msgPushPull, map[string]any{"Nodes": 2, "UserStateLen": 0, "Join": false}), encode(node("new", entry))...)
 	readStream(g, append(broken, 0xc1), false)
-	number, _ := pingIn(t, nextOf(other, time.Minute), false)
+	number, _ := decodePing(t, nextReceived(other, time.Minute), false)
 	inner.receive(ackOf(number), nil)
 	eventually(t, "the answer isn't read", func() bool { return g.candidates.count.Load() == 0 })
 	if nextPacket(g, 100*time.Millisecond) != nil {

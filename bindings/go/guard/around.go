@@ -9,13 +9,13 @@ import (
 	"github.com/hashicorp/memberlist"
 )
 
-// Around makes a guard around a program's own transport, such as one over TLS or in memory. It inspects what inner
-// receives, and sends through inner. The bounds are those of New, and the same fields of config have to be set before
-// the call; it wraps config.Events, and sets Keyring if only SecretKey is set, but no address and no port. If packets of
-// inner may be longer than PacketBytes, raise that bound.
+// Around makes a guard around a program's own transport, such as one over TLS or in memory. The guard inspects
+// everything that inner receives, and sends through inner. The bounds are those of New, and you have to set the same
+// fields of config before the call. Around wraps config.Events, and sets config.Keyring if only SecretKey is set, but
+// it sets no address and no port. If packets of inner may be longer than PacketBytes, raise that bound.
 //
-// The guard reads the channels of inner from the moment at which memberlist requests its own, so if memberlist.Create
-// fails before that, inner is as it was. The transport's Shutdown also shuts down inner.
+// The guard begins to read the channels of inner when memberlist requests the guard's channels. If memberlist.Create
+// fails before that, inner is unchanged. The guard's Shutdown also shuts down inner.
 func Around(inner memberlist.Transport, config *memberlist.Config, settings Settings) (*Transport, error) {
 	if inner == nil {
 		return nil, errors.New("guard: Around needs a transport")
@@ -24,22 +24,23 @@ func Around(inner memberlist.Transport, config *memberlist.Config, settings Sett
 	if err != nil {
 		return nil, err
 	}
-	over := &around{inner: inner, drained: make(chan struct{})}
-	over.nodeAware, _ = inner.(memberlist.NodeAwareTransport)
-	c.watch(config)
-	return newTransport(c, over, logger(config)), nil
+	carrier := &around{inner: inner, drained: make(chan struct{})}
+	carrier.nodeAware, _ = inner.(memberlist.NodeAwareTransport)
+	c.setUpMembers(config)
+	return newTransport(c, carrier, logger(config)), nil
 }
 
-// around carries packets and streams by another transport.
+// around sends and receives packets and streams through another transport.
 type around struct {
 	inner memberlist.Transport
 	// nodeAware is inner if it can use the names of nodes, or else nil.
 	nodeAware memberlist.NodeAwareTransport
 	startOnce sync.Once
-	// drained is closed after inner was shut down, when nothing of it has to be received any more.
+	// drained is closed after inner was shut down, when nobody has to read its channels any more.
 	drained chan struct{}
 }
 
+// receive starts the goroutines that read the channels of inner. The methods below implement carrier too.
 func (a *around) receive(t *Transport) {
 	a.startOnce.Do(func() {
 		t.startProving()
@@ -49,6 +50,7 @@ func (a *around) receive(t *Transport) {
 	})
 }
 
+// receivePackets inspects the packets of inner, and passes them to memberlist.
 func (a *around) receivePackets(t *Transport) {
 	defer t.running.Done()
 	ins := newInspector(t.core)
@@ -59,9 +61,9 @@ func (a *around) receivePackets(t *Transport) {
 				return
 			}
 			ins.from = packet.From
-			// What inspect returns is the packet itself or in new memory, so this needs no copy.
+			// The bytes that inspect returns are those of the packet or are in new memory, so no copy is needed.
 			if allowed := ins.inspect(packet.Buf); allowed != nil {
-				t.pass(&memberlist.Packet{Buf: allowed, From: packet.From, Timestamp: packet.Timestamp})
+				t.passToMemberlist(&memberlist.Packet{Buf: allowed, From: packet.From, Timestamp: packet.Timestamp})
 			}
 		case <-a.drained:
 			return
@@ -69,6 +71,7 @@ func (a *around) receivePackets(t *Transport) {
 	}
 }
 
+// receiveStreams passes the streams of inner to memberlist, which inspects them when it reads them.
 func (a *around) receiveStreams(t *Transport) {
 	defer t.running.Done()
 	for {
@@ -84,8 +87,8 @@ func (a *around) receiveStreams(t *Transport) {
 	}
 }
 
-// close shuts down inner. It may wait until what inner has received is taken from its channels, so these are read until
-// it is done.
+// close shuts down inner. The shutdown may wait until somebody reads the packets and streams that inner has received,
+// so the channels of inner are read until the shutdown is done.
 func (a *around) close() error {
 	defer close(a.drained)
 	return a.inner.Shutdown()

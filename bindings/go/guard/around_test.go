@@ -14,26 +14,27 @@ import (
 	"github.com/hashicorp/memberlist"
 )
 
-// memoryNet is a network in memory: its transports by their addresses.
+// memoryNet is a network in memory. It has its transports by their addresses.
 type memoryNet struct {
 	mu    sync.Mutex
 	nodes map[string]*memoryTransport
 }
 
-func (n *memoryNet) at(addr string) *memoryTransport {
+// transportAt returns the transport with this address, or nil.
+func (n *memoryNet) transportAt(addr string) *memoryTransport {
 	n.mu.Lock()
 	defer n.mu.Unlock()
 	return n.nodes[addr]
 }
 
-// memoryTransport is a program's own transport, which knows nothing of names.
+// memoryTransport is a program's own transport. It doesn't use the names of nodes.
 type memoryTransport struct {
 	net     *memoryNet
 	ip      net.IP
 	packets chan *memberlist.Packet
 	streams chan net.Conn
-	// closed is closed by Shutdown, which waits for the packets that are being sent to this transport, and returns err. mu is
-	// held while sending is changed and while closed is closed.
+	// closed is closed by Shutdown. Shutdown waits until sending counts no more packets that are being sent to this
+	// transport, and returns err. mu is held while sending changes and while closed is being closed.
 	closed  chan struct{}
 	mu      sync.Mutex
 	sending sync.WaitGroup
@@ -42,6 +43,7 @@ type memoryTransport struct {
 
 const memoryPort = 7946
 
+// add adds a transport at 10.0.0.last to the network.
 func (n *memoryNet) add(last byte) *memoryTransport {
 	m := &memoryTransport{
 		net: n, ip: net.IP{10, 0, 0, last}, packets: make(chan *memberlist.Packet), streams: make(chan net.Conn), closed: make(chan struct{}),
@@ -57,7 +59,7 @@ func (n *memoryNet) add(last byte) *memoryTransport {
 
 func (m *memoryTransport) addr() *net.UDPAddr { return &net.UDPAddr{IP: m.ip, Port: memoryPort} }
 
-// receive is what the network does with a packet for this transport.
+// receive delivers a packet of the network to this transport.
 func (m *memoryTransport) receive(b []byte, from net.Addr) {
 	m.mu.Lock()
 	defer m.mu.Unlock()
@@ -78,7 +80,7 @@ func (m *memoryTransport) FinalAdvertiseAddr(string, int) (net.IP, int, error) {
 }
 
 func (m *memoryTransport) WriteTo(b []byte, addr string) (time.Time, error) {
-	if to := m.net.at(addr); to != nil {
+	if to := m.net.transportAt(addr); to != nil {
 		to.receive(b, m.addr())
 	}
 	return time.Now(), nil
@@ -87,7 +89,7 @@ func (m *memoryTransport) WriteTo(b []byte, addr string) (time.Time, error) {
 func (m *memoryTransport) PacketCh() <-chan *memberlist.Packet { return m.packets }
 
 func (m *memoryTransport) DialTimeout(addr string, timeout time.Duration) (net.Conn, error) {
-	to := m.net.at(addr)
+	to := m.net.transportAt(addr)
 	if to == nil {
 		return nil, errors.New("nobody is there")
 	}
@@ -110,14 +112,15 @@ func (m *memoryTransport) Shutdown() error {
 	return m.err
 }
 
-// namedTransport is a program's own transport that knows names.
+// namedTransport is a program's own transport that uses the names of nodes.
 type namedTransport struct {
 	*memoryTransport
 	mu    sync.Mutex
 	names []string
 }
 
-func (n *namedTransport) note(name string) {
+// recordSend records the name of the node to which something is sent.
+func (n *namedTransport) recordSend(name string) {
 	n.mu.Lock()
 	defer n.mu.Unlock()
 	n.names = append(n.names, name)
@@ -129,12 +132,12 @@ func (n *namedTransport) IngestPacket(net.Conn, net.Addr, time.Time, bool) error
 func (n *namedTransport) IngestStream(net.Conn) error { return errors.New("not used") }
 
 func (n *namedTransport) WriteToAddress(b []byte, to memberlist.Address) (time.Time, error) {
-	n.note("packet to " + to.Name)
+	n.recordSend("packet to " + to.Name)
 	return n.WriteTo(b, to.Addr)
 }
 
 func (n *namedTransport) DialAddressTimeout(to memberlist.Address, timeout time.Duration) (net.Conn, error) {
-	n.note("stream to " + to.Name)
+	n.recordSend("stream to " + to.Name)
 	return n.DialTimeout(to.Addr, timeout)
 }
 
@@ -149,7 +152,7 @@ func testAround(t *testing.T, inner memberlist.Transport, isKeyed bool, settings
 	return guarded
 }
 
-// nextPacket returns what memberlist receives next, or nil if nothing arrives within a moment.
+// nextPacket returns the packet that memberlist receives next, or nil if none arrives within wait.
 func nextPacket(g *Transport, wait time.Duration) *memberlist.Packet {
 	select {
 	case packet := <-g.PacketCh():
@@ -179,7 +182,8 @@ func TestAround(t *testing.T) {
 			before, packet := g.Drops()[test.reason], c.seal(test.bytes)
 			inner.receive(packet, from)
 			eventually(t, test.name+" isn't counted", func() bool {
-				// A compound without its bad parts passes, perhaps only now. Until it is taken, nothing after it is inspected.
+				// An earlier compound may pass only now, without its bad parts. Until somebody takes it, the guard
+				// inspects no later packet.
 				if got := nextPacket(g, time.Millisecond); got != nil && bytes.Equal(got.Buf, packet) {
 					t.Errorf("%s passes", test.name)
 				}
@@ -215,8 +219,8 @@ func TestAround(t *testing.T) {
 	}
 }
 
-// What a guard sends goes through the program's own transport, with the name if that one can use it. The guard records
-// the pings, and inspects the answers.
+// A guard sends through the program's own transport, and passes the node's name if that transport can use it. The guard
+// records the pings that it sends, and inspects the answers.
 func TestSendingAround(t *testing.T) {
 	network := new(memoryNet)
 	plain, named, other := network.add(1), &namedTransport{memoryTransport: network.add(2)}, network.add(3)
@@ -224,17 +228,17 @@ func TestSendingAround(t *testing.T) {
 		g := testAround(t, inner, false, Settings{})
 		to := memberlist.Address{Addr: other.addr().String(), Name: "other"}
 		ack := message(msgAck, map[string]any{"SeqNo": 9, "Payload": nil})
-		if pass(g, ack) != nil {
+		if inspectPacket(g, ack) != nil {
 			t.Error("an early ack passes")
 		}
-		ping := message(msgPing, with(ping, map[string]any{"SeqNo": 9}))
+		ping := message(msgPing, withChanges(ping, map[string]any{"SeqNo": 9}))
 		if _, err := g.WriteToAddress(ping, to); err != nil {
 			t.Error(err)
 		}
 		if got := <-other.packets; !bytes.Equal(got.Buf, ping) {
 			t.Errorf("%x was sent", got.Buf)
 		}
-		if pass(g, ack) == nil {
+		if inspectPacket(g, ack) == nil {
 			t.Error("an ack doesn't pass")
 		}
 		go func() {
@@ -256,7 +260,7 @@ func TestSendingAround(t *testing.T) {
 	}
 }
 
-// Nodes over a guarded transport in memory form a cluster, and survive what crashes memberlist.
+// Nodes with a guarded transport in memory form a cluster, and survive packets that crash memberlist.
 func TestClusterAround(t *testing.T) {
 	network := new(memoryNet)
 	var lists []*memberlist.Memberlist
@@ -285,7 +289,7 @@ func TestClusterAround(t *testing.T) {
 	}
 	hostile := packetCases()
 	for _, test := range hostile {
-		network.at("10.0.0.1:7946").receive(test.bytes, &net.UDPAddr{IP: net.IP{10, 0, 0, 9}})
+		network.transportAt("10.0.0.1:7946").receive(test.bytes, &net.UDPAddr{IP: net.IP{10, 0, 0, 9}})
 	}
 	for _, list := range lists {
 		eventually(t, "not all nodes are members", func() bool { return list.NumMembers() == 3 })
@@ -302,8 +306,8 @@ func TestClusterAround(t *testing.T) {
 	}
 }
 
-// Until memberlist requests the channels, the guard takes nothing from the program's transport. Shutdown takes what
-// is still being received, since the transport may wait for that, and returns the transport's error.
+// Until memberlist requests the channels, the guard reads nothing from the program's transport. Shutdown reads the
+// packets that are still being received, since the transport may wait for that, and returns the transport's error.
 func TestShutdownAround(t *testing.T) {
 	inner := new(memoryNet).add(1)
 	inner.err = errors.New("it failed")
@@ -343,7 +347,8 @@ func TestShutdownAround(t *testing.T) {
 	}
 }
 
-// A guard whose channels memberlist never requested ends too, although its transport waits for what is being received.
+// Shutdown of a guard returns even if memberlist never requested its channels, and even if its transport waits until
+// somebody reads a received packet.
 func TestShutdownBeforeChannelsAround(t *testing.T) {
 	inner := new(memoryNet).add(1)
 	g, err := Around(inner, testConfig("child", false), Defaults())
@@ -366,7 +371,7 @@ func TestShutdownBeforeChannelsAround(t *testing.T) {
 	g.running.Wait()
 }
 
-// A transport that closes its channels ends what reads them.
+// If a transport closes its channels, the goroutines that read them end.
 func TestClosedChannelsAround(t *testing.T) {
 	inner := new(memoryNet).add(1)
 	g, err := Around(inner, testConfig("child", false), Defaults())

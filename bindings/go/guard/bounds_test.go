@@ -46,16 +46,16 @@ func TestIdleStreams(t *testing.T) {
 	}
 }
 
-// As many push/pulls as the bounds allow start at once. One more waits until another ends, or until the oldest has had
-// its time and is closed.
+// As many push/pulls as the bounds allow start at once. One more waits until another one ends, or until the oldest one
+// has used up its time and is closed.
 func TestPushPulls(t *testing.T) {
-	three := func(string) (int, bool) { return 3, false }
-	for _, settings := range []Settings{{PushPulls: 2}, {StreamBytes: 8000, AllBytes: 8000, Known: three}} {
-		pushPulls(t, settings)
+	knowsThree := func(string) (int, bool) { return 3, false }
+	for _, settings := range []Settings{{PushPulls: 2}, {StreamBytes: 8000, AllBytes: 8000, Known: knowsThree}} {
+		checkPushPullPlaces(t, settings)
 	}
 }
 
-// A push/pull without any others starts even if its answer exceeds the bound.
+// If there are no other push/pulls, one starts even if its answer exceeds the bound.
 func TestLongAnswer(t *testing.T) {
 	g := testGuard(t, false, Settings{StreamBytes: 8000, AllBytes: 8000, Known: func(string) (int, bool) { return 100, false }})
 	if whole := pushPull(nil, 0); !bytes.Equal(readStream(g, whole, false), whole) {
@@ -63,8 +63,8 @@ func TestLongAnswer(t *testing.T) {
 	}
 }
 
-// pushPulls tests settings that allow two push/pulls at once.
-func pushPulls(t *testing.T, settings Settings) {
+// checkPushPullPlaces tests settings that allow two push/pulls at once.
+func checkPushPullPlaces(t *testing.T, settings Settings) {
 	g := testGuard(t, false, settings)
 	whole := pushPull(nil, 0)
 	start := func() (*stream, chan int) {
@@ -107,7 +107,7 @@ func pushPulls(t *testing.T, settings Settings) {
 	}
 }
 
-// If there is no room for a stream, the incomplete one that holds the most is closed.
+// If there is no room for a stream, the guard closes the incomplete stream that holds the largest number of bytes.
 func TestEviction(t *testing.T) {
 	g := testGuard(t, false, Settings{StreamBytes: 8000, AllBytes: 8000})
 	user := func(n int) []byte { return append(message(msgUser, map[string]any{"UserMsgLen": n}), zeros(n)...) }
@@ -133,15 +133,15 @@ func TestEviction(t *testing.T) {
 	}
 }
 
-// Streams release all that they hold.
+// Closed streams release everything that they held.
 func TestStreamsGiveBackAll(t *testing.T) {
 	g := testGuard(t, true, Settings{})
 	for _, test := range append(streamCases(), testCase{bytes: pushPull(nil, 100_000)}) {
 		readStream(g, sealStreamWith(testKey, test.bytes), false)
 		readStream(g, sealStreamWith(testKey, test.bytes), true)
 	}
-	if g.streams.total != (load{}) || g.streams.evicted != (load{}) || len(g.streams.accepted) != 0 {
-		t.Errorf("%v, %v, %d streams", g.streams.total, g.streams.evicted, len(g.streams.accepted))
+	if g.streams.total != (load{}) || g.streams.evictedLoad != (load{}) || len(g.streams.accepted) != 0 {
+		t.Errorf("%v, %v, %d streams", g.streams.total, g.streams.evictedLoad, len(g.streams.accepted))
 	}
 }
 
@@ -194,7 +194,7 @@ func TestMembers(t *testing.T) {
 	}
 }
 
-// admits reports whether a node with this name, and with an address that is proven, has a place.
+// admits reports whether there is a place for a node with this name and a proven address.
 func admits(g *Transport, name string) bool {
 	return g.members.admit(nameAt{name, netip.MustParseAddrPort("127.0.0.9:9")}) == none
 }
@@ -219,7 +219,7 @@ func TestPlaces(t *testing.T) {
 	}
 }
 
-// A node that joins while another one is checked keeps its place.
+// If a node joins while the guard checks whether another one may have a place, it keeps its place.
 func TestJoinDuringAdmission(t *testing.T) {
 	var g *Transport
 	g = testGuard(t, false, Settings{Members: 1, Known: func(name string) (int, bool) {
@@ -255,16 +255,16 @@ func TestAcks(t *testing.T) {
 		c := &child{childOptions: childOptions{IsKeyed: isKeyed}}
 		g := testGuard(t, isKeyed, Settings{})
 		to := fmt.Sprint("127.0.0.1:", g.Port())
-		out := message(msgPing, with(ping, map[string]any{"SeqNo": 9}))
-		for i, packet := range [][]byte{out, compound(out, []byte{msgUser}), compressed(compound(out, out)), checked(compressed(out))} {
+		out := message(msgPing, withChanges(ping, map[string]any{"SeqNo": 9}))
+		for i, packet := range [][]byte{out, compound(out, []byte{msgUser}), compressed(compound(out, out)), withChecksum(compressed(out))} {
 			ack := c.seal(message(msgAck, map[string]any{"SeqNo": 9, "Payload": nil}))
-			if pass(g, ack) != nil {
+			if inspectPacket(g, ack) != nil {
 				t.Errorf("%d: an early ack passes", i)
 			}
 			if _, err := g.WriteTo(c.seal(packet), to); err != nil {
 				t.Error(err)
 			}
-			if pass(g, ack) == nil {
+			if inspectPacket(g, ack) == nil {
 				t.Errorf("%d: an ack doesn't pass", i)
 			}
 			g.pings.add(9 + 4096)
@@ -279,7 +279,7 @@ func TestAcks(t *testing.T) {
 		} {
 			g.pings.unreadableAt.Store(0)
 			// After a packet that can't be read every ack passes, since the packet may have contained a ping.
-			if _, err := g.WriteTo(c.seal(test.sent), to); err != nil || (pass(g, ack) != nil) != test.passes {
+			if _, err := g.WriteTo(c.seal(test.sent), to); err != nil || (inspectPacket(g, ack) != nil) != test.passes {
 				t.Errorf("%d: %v", i, err)
 			}
 		}
@@ -289,7 +289,7 @@ func TestAcks(t *testing.T) {
 func TestIndirectPings(t *testing.T) {
 	g, began, passed := testGuard(t, false, Settings{IndirectPings: 5}), time.Now(), 0
 	for n := 0; n < 1000; n++ {
-		if pass(g, message(msgIndirectPing, with(ping, map[string]any{"Target": []byte{127, 0, 0, 1}}))) != nil {
+		if inspectPacket(g, message(msgIndirectPing, withChanges(ping, map[string]any{"Target": []byte{127, 0, 0, 1}}))) != nil {
 			passed++
 		}
 	}
@@ -308,7 +308,7 @@ func TestKeys(t *testing.T) {
 	defer g.Shutdown()
 	other := []byte("another sixteen!")
 	passes := func() string {
-		return fmt.Sprint(pass(g, sealWith(testKey, alive("a", nil))) != nil, pass(g, sealWith(other, alive("a", nil))) != nil)
+		return fmt.Sprint(inspectPacket(g, sealWith(testKey, alive("a", nil))) != nil, inspectPacket(g, sealWith(other, alive("a", nil))) != nil)
 	}
 	for i, test := range []struct {
 		change func() error
@@ -323,7 +323,7 @@ func TestKeys(t *testing.T) {
 	}
 }
 
-// If GossipVerifyIncoming is false, plain packets and streams are inspected too.
+// If GossipVerifyIncoming is false, the guard also inspects packets and streams that are not encrypted.
 func TestUnverifiedGossip(t *testing.T) {
 	c := testConfig("child", true)
 	c.GossipVerifyIncoming = false
@@ -338,7 +338,7 @@ func TestUnverifiedGossip(t *testing.T) {
 		packet []byte
 		passes bool
 	}{{alive("a", nil), true}, {message(msgPing, ping), true}, {versionsAlive(1), false}, {sealWith(testKey, alive("b", nil)), true}, {old, false}} {
-		if passed := pass(g, test.packet) != nil; passed != test.passes {
+		if passed := inspectPacket(g, test.packet) != nil; passed != test.passes {
 			t.Errorf("packet %d: passes: %v", i, passed)
 		}
 	}
@@ -375,8 +375,9 @@ func TestSettings(t *testing.T) {
 	}
 }
 
-// typeOf makes a struct type like memberlist's, and valueOf encodes a value of it with go-msgpack.
-func typeOf(s schema) reflect.Type {
+// structTypeOf makes a struct type like those of memberlist from a schema, and randomValueOf encodes a random value of that type
+// with go-msgpack.
+func structTypeOf(s schema) reflect.Type {
 	var fields []reflect.StructField
 	for _, field := range s {
 		fieldType := reflect.TypeOf([]byte(nil))
@@ -397,7 +398,7 @@ func typeOf(s schema) reflect.Type {
 	return reflect.StructOf(fields)
 }
 
-func valueOf(r *rand.Rand, s schema) []byte {
+func randomValueOf(r *rand.Rand, s schema) []byte {
 	values := map[string]any{"Xtra": 1.5}
 	for _, field := range s {
 		switch field.kind {
@@ -414,27 +415,27 @@ func valueOf(r *rand.Rand, s schema) []byte {
 	return encode(values)
 }
 
-// go-msgpack decodes what the guard accepts to the same values.
+// If the guard accepts a message, go-msgpack decodes it to the same values as the guard.
 func TestSameAsGoMsgpack(t *testing.T) {
 	settings := Defaults()
-	shapes, r, accepted := newSchemas(&settings), rand.New(rand.NewSource(int64(numberOf("GUARD_SEED", 1)))), 0
+	shapes, r, accepted := newSchemas(&settings), rand.New(rand.NewSource(int64(envNumber("GUARD_SEED", 1)))), 0
 	for kind, s := range append(shapes.byType[:], shapes.node) {
-		for n := numberOf("GUARD_READS", 5000); n > 0 && s != nil; n-- {
-			bytes := mutate(r, valueOf(r, s))
+		for n := envNumber("GUARD_READS", 5000); n > 0 && s != nil; n-- {
+			bytes := mutate(r, randomValueOf(r, s))
 			reader := newReader(bytes)
 			var values [maxFields]value
 			if reader.readFields(s, &values) != none {
 				continue
 			}
 			accepted++
-			into := reflect.New(typeOf(s))
+			into := reflect.New(structTypeOf(s))
 			decoder := codec.NewDecoderBytes(bytes[:reader.At], &codec.MsgpackHandle{})
 			if err := decoder.Decode(into.Interface()); err != nil {
 				t.Fatalf("type %d, %x: %v", kind, bytes, err)
 			}
 			for i := range s {
 				field := into.Elem().Field(i)
-				if decoded, want := fmt.Sprint(field.Interface()), formatted(values[i], field); decoded != want {
+				if decoded, want := fmt.Sprint(field.Interface()), formatLike(values[i], field); decoded != want {
 					t.Fatalf("type %d, %x: %s is decoded as %s, and the guard read %s", kind, bytes, s[i].name, decoded, want)
 				}
 			}
@@ -448,8 +449,8 @@ func TestSameAsGoMsgpack(t *testing.T) {
 	t.Logf("%d were accepted", accepted)
 }
 
-// formatted prints a value as the field of this kind would print it.
-func formatted(v value, like reflect.Value) string {
+// formatLike prints a value as the field of this kind would print it.
+func formatLike(v value, like reflect.Value) string {
 	switch like.Kind() {
 	case reflect.String:
 		return string(v.bytes)

@@ -10,8 +10,8 @@ import (
 	"time"
 )
 
-// origin is how a new node was reported. Each origin has its own limits, so a flood of one kind can't keep out nodes
-// that are reported by another.
+// origin is the kind of message that reported a new node. Each origin has its own limits, so a flood of reports of one
+// origin can't keep out nodes that are reported with another origin.
 type origin uint8
 
 const (
@@ -19,24 +19,25 @@ const (
 	fromAccepted               // by a state that another node sent
 	fromMember                 // by a packet from the address of a member
 	fromStranger               // by another packet
-	origins
+	originCount
 )
 
-// pingLimits are how many new nodes of each origin are pinged at once, and then in each second. Each of them is pinged
-// maxPings times at most.
-var pingLimits = [origins]struct{ burst, perSecond float64 }{{4096, 256}, {512, 128}, {512, 128}, {256, 64}}
+// pingLimits says for each origin how many new nodes the guard pings at once (burst), and then in each second. The
+// guard pings each node at most maxPings times.
+var pingLimits = [originCount]struct{ burst, perSecond float64 }{{4096, 256}, {512, 128}, {512, 128}, {256, 64}}
 
-// silentTime is how long a node that didn't answer isn't pinged again, counted from the first ping.
+// silentTime is how long the guard doesn't ping a node again that didn't answer. It counts from the first ping.
 const silentTime = 10 * time.Second
 
-// pingsAtOnce is how many pings are sent without a pause, so that their acks find room in the socket's buffer.
+// pingsAtOnce is how many pings the guard sends without a pause. The pauses leave room in the socket's buffer for the
+// acks.
 const (
 	pingsAtOnce = 64
 	pingPause   = time.Millisecond
 )
 
-// maxPings is how often a candidate is pinged, and answerIntervals after how many of memberlist's ProbeTimeout it is
-// given up.
+// maxPings is how often the guard pings a candidate. The guard stops waiting for the candidate's answer after
+// answerIntervals times memberlist's ProbeTimeout.
 const (
 	maxPings        = 3
 	answerIntervals = 3
@@ -48,8 +49,8 @@ type nameAt struct {
 	addr netip.AddrPort
 }
 
-// limitKey is what shares a limit on its number of candidates: an address that is to be pinged, or, of states that
-// others sent, the host that sent them.
+// limitKey identifies a group of candidates that share one limit: the candidates with the same address to ping, or, if
+// they were reported by states that others sent, the candidates from the same sending host.
 type limitKey struct {
 	origin       origin
 	target, peer netip.Addr
@@ -60,40 +61,45 @@ type candidate struct {
 	nameAt
 	origin origin
 	limits []limitKey
-	// number is the sequence number of its pings. Only a host that receives one of them knows it.
+	// number is the sequence number of the pings to the candidate. Only a host that receives one of these pings knows
+	// it.
 	number uint32
-	// since is when it was first reported, and pings how often it was pinged since.
-	since time.Time
-	pings int
-	// isAnswered: an ack arrived. isSilent: none arrived in time. refusal: why it isn't admitted, although it answered.
+	// reportedAt is when the candidate was first reported, and pings is how often it was pinged since then.
+	reportedAt time.Time
+	pings      int
+	// isAnswered: an ack arrived. isSilent: no ack arrived in time. refusal: the reason why the candidate isn't
+	// admitted although it answered.
 	isAnswered, isSilent bool
 	refusal              Reason
-	// alive is the report that memberlist gets when the candidate answers, and later the last message after it that said
-	// that the node is suspected or dead; nil if there is none.
+	// alive is the report that memberlist receives when the candidate answers. later is the last message after that
+	// report which says that the node is suspected or dead, or nil if there is none.
 	alive, later []byte
-	from         net.Addr
-	// groups are the push/pulls that wait for it.
+	reporter     net.Addr
+	// groups has the push/pulls that wait for the candidate.
 	groups []*group
 }
 
-// group is what a push/pull waits for: done is closed when all its candidates have answered or are given up. pending is the
-// number of the others, and 1 more until seal.
+// group has the candidates for which a push/pull waits. done is closed when each of them has answered or was silent for
+// too long. pending is the number of candidates that are still undecided, plus 1 until closeGroup is called.
 type group struct {
 	pending int
 	done    chan struct{}
-	// since is when the push/pull began to ping its candidates, and answeredAt when the last answer arrived.
-	since, answeredAt time.Time
+	// pingsBeganAt is when the guard began to ping the candidates, and lastAnswerAt is when the last answer arrived.
+	pingsBeganAt, lastAnswerAt time.Time
 }
 
-func newGroup() *group { return &group{pending: 1, done: make(chan struct{}), since: time.Now()} }
+func newGroup() *group {
+	return &group{pending: 1, done: make(chan struct{}), pingsBeganAt: time.Now()}
+}
 
-// bucket allows a number of pings at once and then in each second.
+// bucket allows a number of pings at once, and then a number in each second.
 type bucket struct {
 	used    float64
 	sweptAt time.Time
 }
 
-func (b *bucket) takes(now time.Time, burst, perSecond float64) bool {
+// takeIfAllowed takes one ping from the bucket, or returns false if none is allowed now.
+func (b *bucket) takeIfAllowed(now time.Time, burst, perSecond float64) bool {
 	if b.used -= now.Sub(b.sweptAt).Seconds() * perSecond; b.used < 0 {
 		b.used = 0
 	}
@@ -105,44 +111,48 @@ func (b *bucket) takes(now time.Time, burst, perSecond float64) bool {
 	return true
 }
 
-// candidates are the new nodes that have to answer a ping. Its size is limited by the rates at which nodes are added,
-// since each one is removed after silentTime.
+// candidates has the new nodes that have to answer a ping. The rates at which nodes are added limit its size, since
+// each node is removed after silentTime.
 type candidates struct {
 	members *members
 	drops   *drops
-	// perAddress is the maximum number of candidates for each limitKey. interval is the time between two pings.
+	// perAddress is the maximum number of candidates for each limitKey. interval is the time between two pings of one
+	// candidate.
 	perAddress int
 	interval   time.Duration
 	// count is the number of candidates, for a check without the lock.
 	count atomic.Int64
-	// work has an element when there may be something to send.
-	work chan struct{}
+	// workReady has an element when there may be something to send.
+	workReady chan struct{}
 
 	mu       sync.Mutex
 	byKey    map[nameAt]*candidate
 	byNumber map[uint32]*candidate
 	limits   map[limitKey]int
-	buckets  [origins]bucket
-	// queue has all candidates, the oldest first. answered are those that memberlist has to get.
+	buckets  [originCount]bucket
+	// queue has all candidates, the oldest first. answered has the candidates that answered and that memberlist still
+	// has to receive.
 	queue, answered []*candidate
 }
 
 func newCandidates(m *members, d *drops, perAddress int, interval time.Duration) *candidates {
 	return &candidates{
-		members: m, drops: d, perAddress: perAddress, interval: interval, work: make(chan struct{}, 1), byKey: map[nameAt]*candidate{},
+		members: m, drops: d, perAddress: perAddress, interval: interval, workReady: make(chan struct{}, 1), byKey: map[nameAt]*candidate{},
 		byNumber: map[uint32]*candidate{}, limits: map[limitKey]int{},
 	}
 }
 
+// signal wakes prove, because there may be something to send.
 func (c *candidates) signal() {
 	select {
-	case c.work <- struct{}{}:
+	case c.workReady <- struct{}{}:
 	default:
 	}
 }
 
-// add makes a node a candidate, or adds a newer report to it. It returns nil and a reason if the node can't be one now.
-// If waiting isn't nil, a push/pull waits for the candidate, and memberlist gets alive only after release.
+// add makes a node a candidate, or adds a newer report to an existing candidate. If the node can't be a candidate now,
+// add returns nil and the reason. If waiting isn't nil, a push/pull waits for the candidate, and memberlist receives
+// alive only after release.
 func (c *candidates) add(node nameAt, from origin, peer netip.Addr, source net.Addr, alive []byte, waiting *group) (*candidate, Reason) {
 	now := time.Now()
 	c.mu.Lock()
@@ -158,7 +168,7 @@ func (c *candidates) add(node nameAt, from origin, peer netip.Addr, source net.A
 	if found == nil {
 		limits := []limitKey{{origin: from, target: node.addr.Addr()}}
 		if from == fromAccepted {
-			// (so nobody can use up what is for the host at the address itself)
+			// (so that no other host can use up the limit of the host at that address)
 			limits = []limitKey{{origin: from, target: node.addr.Addr(), peer: peer}, {origin: from, peer: peer}}
 		}
 		for _, key := range limits {
@@ -166,10 +176,10 @@ func (c *candidates) add(node nameAt, from origin, peer netip.Addr, source net.A
 				return nil, Unproven
 			}
 		}
-		if limit := pingLimits[from]; !c.buckets[from].takes(now, limit.burst, limit.perSecond) {
+		if limit := pingLimits[from]; !c.buckets[from].takeIfAllowed(now, limit.burst, limit.perSecond) {
 			return nil, Unproven
 		}
-		found = &candidate{nameAt: node, origin: from, limits: limits, number: c.newNumber(), since: now}
+		found = &candidate{nameAt: node, origin: from, limits: limits, number: c.newNumber(), reportedAt: now}
 		for _, key := range limits {
 			c.limits[key]++
 		}
@@ -178,7 +188,7 @@ func (c *candidates) add(node nameAt, from origin, peer netip.Addr, source net.A
 		c.count.Add(1)
 		c.signal()
 	}
-	found.from = source
+	found.reporter = source
 	if waiting != nil {
 		waiting.pending++
 		found.groups = append(found.groups, waiting)
@@ -188,8 +198,8 @@ func (c *candidates) add(node nameAt, from origin, peer netip.Addr, source net.A
 	return found, held
 }
 
-// newNumber returns a number that nobody can guess, that no other candidate has, and to which memberlist, which counts
-// its pings from 1, doesn't get soon.
+// newNumber returns a sequence number that nobody can guess and that no other candidate has. The number is also large,
+// so that memberlist, which numbers its pings from 1, won't use it soon.
 func (c *candidates) newNumber() uint32 {
 	for {
 		var random [4]byte
@@ -204,7 +214,7 @@ func (c *candidates) newNumber() uint32 {
 
 const minNumber = 1 << 24
 
-// remove removes a candidate from all but the queue.
+// remove removes a candidate from everything except the queue.
 func (c *candidates) remove(old *candidate) {
 	if c.byKey[old.nameAt] != old {
 		return
@@ -221,49 +231,51 @@ func (c *candidates) remove(old *candidate) {
 	c.count.Add(-1)
 }
 
-// resolve counts a candidate as decided in the push/pulls that wait for it.
-func (c *candidates) resolve(decided *candidate) {
+// countAsDecided counts a candidate as decided in all push/pulls that wait for it.
+func (c *candidates) countAsDecided(decided *candidate) {
 	for _, waiting := range decided.groups {
-		waiting.resolve()
+		waiting.countDecision()
 	}
 }
 
-func (g *group) resolve() {
+// countDecision counts one candidate of the group as decided, and ends the push/pull's wait if no other is undecided.
+func (g *group) countDecision() {
 	if g.pending--; g.pending == 0 {
 		close(g.done)
 	}
 }
 
-// seal notes that all candidates of a push/pull are in its group.
-func (c *candidates) seal(waiting *group) {
+// closeGroup says that no more candidates are added to the group of a push/pull.
+func (c *candidates) closeGroup(waiting *group) {
 	c.mu.Lock()
 	defer c.mu.Unlock()
-	waiting.resolve()
+	waiting.countDecision()
 }
 
-// isQuiet reports whether candidates of a group have answered, and since the last answer three times as long has passed as that
-// answer took, and a fifth of interval more. The others probably don't exist any more.
+// isQuiet reports whether some candidates of a group have answered and the rest probably don't exist any more. It
+// assumes that when the time since the last answer exceeds three times the time that this answer took, plus a fifth of
+// interval.
 func (c *candidates) isQuiet(waiting *group) bool {
 	c.mu.Lock()
 	defer c.mu.Unlock()
-	last := waiting.answeredAt
-	return !last.IsZero() && time.Since(last) > 3*last.Sub(waiting.since)+c.interval/5
+	lastAnswer := waiting.lastAnswerAt
+	return !lastAnswer.IsZero() && time.Since(lastAnswer) > 3*lastAnswer.Sub(waiting.pingsBeganAt)+c.interval/5
 }
 
-// admitted returns how many candidates of spans are admitted.
-func (c *candidates) admitted(spans []span) (count int) {
+// countAdmitted returns how many of the candidates in spans are admitted.
+func (c *candidates) countAdmitted(spans []span) (count int) {
 	c.mu.Lock()
 	defer c.mu.Unlock()
 	for _, s := range spans {
-		if s.of != nil && s.of.isAnswered && s.of.refusal == none {
+		if s.candidate != nil && s.candidate.isAnswered && s.candidate.refusal == none {
 			count++
 		}
 	}
 	return count
 }
 
-// answer reports whether an ack with this sequence number answers a ping of a candidate, and admits that candidate.
-func (c *candidates) answer(number uint32) bool {
+// acceptAck reports whether an ack with this sequence number answers a ping of a candidate, and admits that candidate.
+func (c *candidates) acceptAck(number uint32) bool {
 	if c.count.Load() == 0 {
 		return false
 	}
@@ -283,14 +295,14 @@ func (c *candidates) answer(number uint32) bool {
 		c.signal()
 	}
 	for _, waiting := range found.groups {
-		waiting.answeredAt = time.Now()
+		waiting.lastAnswerAt = time.Now()
 	}
-	c.resolve(found)
+	c.countAsDecided(found)
 	return true
 }
 
-// holdLater keeps a message that says that a node is suspected or dead, if the node is a candidate that memberlist gets
-// when it answers. memberlist ignores such a message about a node that it doesn't know.
+// holdLater keeps a message that says that a node is suspected or dead, if the node is a candidate. memberlist receives
+// the message after the candidate's report, since it ignores messages of this kind about nodes that it doesn't know.
 func (c *candidates) holdLater(name, message []byte) bool {
 	if c.count.Load() == 0 {
 		return false
@@ -306,69 +318,69 @@ func (c *candidates) holdLater(name, message []byte) bool {
 	return isHeld
 }
 
-// release ends the wait of a push/pull for a candidate. It reports whether the candidate is admitted, or else why not.
-// If the candidate may still answer, memberlist gets alive when it does.
-func (c *candidates) release(waiting *group, of *candidate, alive []byte) Reason {
+// endWait ends the wait of a push/pull for a candidate. It returns none if the candidate is admitted, and otherwise the
+// reason why not. If the candidate may still answer, memberlist receives alive when it does.
+func (c *candidates) endWait(waiting *group, candidate *candidate, alive []byte) Reason {
 	c.mu.Lock()
 	defer c.mu.Unlock()
-	for i, other := range of.groups {
+	for i, other := range candidate.groups {
 		if other == waiting {
-			of.groups = append(of.groups[:i], of.groups[i+1:]...)
+			candidate.groups = append(candidate.groups[:i], candidate.groups[i+1:]...)
 			break
 		}
 	}
 	switch {
-	case of.isAnswered:
-		return of.refusal
-	case !of.isSilent:
+	case candidate.isAnswered:
+		return candidate.refusal
+	case !candidate.isSilent:
 		if alive != nil {
-			of.alive = alive
+			candidate.alive = alive
 		}
 		return held
 	}
 	return Unproven
 }
 
-// due returns which candidates have to be pinged, those that memberlist has to get, and when to call it again; never if
-// that is 0.
-func (c *candidates) due(now time.Time) (pings, answered []*candidate, next time.Duration) {
+// takeDue returns the candidates that have to be pinged now, and the candidates that memberlist has to receive now. next is
+// how long to wait before the next call of due, or 0 if no further call is needed.
+func (c *candidates) takeDue(now time.Time) (pings, answered []*candidate, wait time.Duration) {
 	c.mu.Lock()
 	defer c.mu.Unlock()
 	answered, c.answered = c.answered, nil
-	staying, hasMore := c.queue[:0], false
-	for _, old := range c.queue {
-		age := now.Sub(old.since)
-		switch isIn := c.byKey[old.nameAt] == old; {
+	remaining, hasMore := c.queue[:0], false
+	for _, queued := range c.queue {
+		age := now.Sub(queued.reportedAt)
+		switch isIn := c.byKey[queued.nameAt] == queued; {
 		case !isIn:
 			continue
-		case age >= silentTime && old.isSilent:
-			c.remove(old)
+		case age >= silentTime && queued.isSilent:
+			c.remove(queued)
 			continue
-		case age >= answerIntervals*c.interval && old.pings == maxPings && !old.isSilent:
-			old.isSilent, old.alive, old.later = true, nil, nil
-			delete(c.byNumber, old.number)
-			if len(old.groups) == 0 {
+		case age >= answerIntervals*c.interval && queued.pings == maxPings && !queued.isSilent:
+			queued.isSilent, queued.alive, queued.later = true, nil, nil
+			delete(c.byNumber, queued.number)
+			if len(queued.groups) == 0 {
 				c.drops.add(Unproven)
 			}
-			c.resolve(old)
-		case !old.isSilent && old.pings < maxPings && age >= time.Duration(old.pings)*c.interval:
+			c.countAsDecided(queued)
+		case !queued.isSilent && queued.pings < maxPings && age >= time.Duration(queued.pings)*c.interval:
 			if len(pings) == pingsAtOnce {
 				hasMore = true
 				break
 			}
-			old.pings++
-			pings = append(pings, old)
+			queued.pings++
+			pings = append(pings, queued)
 		}
-		staying = append(staying, old)
+		remaining = append(remaining, queued)
 	}
-	for i := len(staying); i < len(c.queue); i++ {
+	for i := len(remaining); i < len(c.queue); i++ {
 		c.queue[i] = nil
 	}
-	if c.queue = staying; len(staying) > 0 {
-		next = c.interval / 2
+	if c.queue = remaining; len(remaining) > 0 {
+		wait = c.interval / 2
 	}
 	if hasMore {
-		next = pingPause
+		wait = pingPause
 	}
-	return pings, answered, next
+	return pings, answered, wait
 }

@@ -13,24 +13,27 @@ var ping = map[string]any{"SeqNo": 7, "Node": "child", "SourceAddr": []byte{127,
 
 // withExtra returns a ping with an unknown field whose value has these bytes.
 func withExtra(value ...byte) []byte {
-	out := message(msgPing, with(ping, map[string]any{"Xtra": 0}))
+	out := message(msgPing, withChanges(ping, map[string]any{"Xtra": 0}))
 	at := bytes.Index(out, []byte("Xtra")) + 4
 	return append(append(append([]byte(nil), out[:at]...), value...), out[at+1:]...)
 }
 
+// versionsAlive returns an alive message with these bytes as its versions.
 func versionsAlive(v ...byte) []byte { return alive("v", map[string]any{"Vsn": v}) }
 
 func zeros(n int) []byte { return make([]byte, n) }
 
-// testCase is a packet or a stream, and why the guard drops it. The first letter of its name says what memberlist does
-// without the guard: D, it crashes; M, it allocates 40 MiB or more; P, it accepts it, and passes it on to others.
-// memberlist refuses the others, or accepts them without harm.
+// testCase is a packet or a stream, with the reason for which the guard drops it. The first letter of its name says
+// what memberlist does without the guard. D: it crashes. M: it allocates 40 MiB or more. P: it accepts the message and
+// passes it on to others. If the name begins with another letter, memberlist refuses the message, or accepts it without
+// harm.
 type testCase struct {
 	name   string
 	bytes  []byte
 	reason Reason
 }
 
+// packetCases returns packets that the guard drops.
 func packetCases() []testCase {
 	var many [][]byte
 	for len(many) < 128 {
@@ -41,7 +44,7 @@ func packetCases() []testCase {
 		nested = compound(nested)
 	}
 	noParts := compound()
-	sum := checked(message(msgPing, ping))
+	sum := withChecksum(message(msgPing, ping))
 	sum[1]++
 	broken := message(msgCompress, map[string]any{"Algo": 0, "Buf": []byte{255, 255, 255}})
 	twice := append([]byte{msgNack, 0x82}, bytes.Repeat(encode("SeqNo"), 1)...)
@@ -52,7 +55,7 @@ func packetCases() []testCase {
 		{"P a delegate version that no node supports", versionsAlive(1, 5, 2, 5, 5, 5), Versions},
 		{"a Vsn of 0", versionsAlive(0, 0, 0, 0, 0, 0), Versions},
 		{"D an empty part", compound([]byte{}), Empty},
-		{"D an empty body after a CRC", checked(nil), Empty},
+		{"D an empty body after a CRC", withChecksum(nil), Empty},
 		{"D an empty result of LZW", compressed(nil), Empty},
 		{"128 parts", compound(many...), Parts},
 		{"D 255 parts", append([]byte{msgCompound, 255}, zeros(600)...), Parts},
@@ -73,7 +76,7 @@ func packetCases() []testCase {
 		{"compounds in a compound", nested, Nested},
 		{"compressed twice", compressed(compressed(message(msgPing, ping))), Nested},
 		{"compressed in a compound", compound(compressed(message(msgPing, ping))), Nested},
-		{"a CRC in a compound", compound(checked(message(msgPing, ping))), Nested},
+		{"a CRC in a compound", compound(withChecksum(message(msgPing, ping))), Nested},
 		{"encrypted within", []byte{msgEncrypt, 1, 2, 3}, Nested},
 		{"a wrong CRC", sum, Checksum},
 		{"an unknown compression", message(msgCompress, map[string]any{"Algo": 1, "Buf": lzwOf([]byte("x"))}), Compression},
@@ -81,8 +84,8 @@ func packetCases() []testCase {
 		{"bytes after what is compressed", append(compressed(message(msgPing, ping)), 0), Trailing},
 		{"an array for a map", message(msgPing, []any{7, "child"}), Malformed},
 		{"a field twice", twice, Malformed},
-		{"a text for a number", message(msgPing, with(ping, map[string]any{"SeqNo": "7"})), Malformed},
-		{"a number below 0", message(msgPing, with(ping, map[string]any{"SeqNo": -1})), Range},
+		{"a text for a number", message(msgPing, withChanges(ping, map[string]any{"SeqNo": "7"})), Malformed},
+		{"a number below 0", message(msgPing, withChanges(ping, map[string]any{"SeqNo": -1})), Range},
 		{"a number of 33 bits", alive("n", map[string]any{"Incarnation": uint64(1) << 32}), Range},
 		{"a port of 17 bits", alive("n", map[string]any{"Port": 1 << 16}), Range},
 		{"bytes after a ping", append(message(msgPing, ping), 0), Trailing},
@@ -96,8 +99,8 @@ func packetCases() []testCase {
 		{"a multicast address", alive("a", map[string]any{"Addr": []byte{224, 0, 0, 1}}), Address},
 		{"a broadcast address", alive("a", map[string]any{"Addr": []byte{255, 255, 255, 255}}), Address},
 		{"a broadcast address in 16 bytes", alive("a", map[string]any{"Addr": []byte(net.IPv4bcast.To16())}), Address},
-		{"a ping from a multicast address", message(msgPing, with(ping, map[string]any{"SourceAddr": []byte{239, 1, 1, 1}})), Address},
-		{"an indirect ping of no address", message(msgIndirectPing, with(ping, map[string]any{"Port": 9})), Address},
+		{"a ping from a multicast address", message(msgPing, withChanges(ping, map[string]any{"SourceAddr": []byte{239, 1, 1, 1}})), Address},
+		{"an indirect ping of no address", message(msgIndirectPing, withChanges(ping, map[string]any{"Port": 9})), Address},
 		{"an unknown type", []byte{200, 1}, Kind},
 		{"a push/pull in a packet", pushPull(nil, 0), Kind},
 		{"an error in a packet", message(msgErr, map[string]any{"Error": "x"}), Kind},
@@ -112,8 +115,8 @@ func packetCases() []testCase {
 	return cases
 }
 
-// sealedPackets are packets from a sender without the key, and packets that only a sender with the key can make. They
-// are sent as they are.
+// sealedPackets returns packets from a sender without the key, and packets that only a sender with the key can make.
+// The test sends them unchanged.
 func sealedPackets() []testCase {
 	old := sealWith(testKey, append([]byte{msgUser}, bytes.Repeat([]byte{200}, 40)...))
 	old[0] = 0
@@ -160,7 +163,7 @@ func (c *child) mustDrop(test testCase, send func()) {
 		test.reason = Malformed // The encrypted content is complete, so the stream isn't short.
 	}
 	if c.IsAlone {
-		c.alone(test, send)
+		c.logWithoutGuard(test, send)
 		return
 	}
 	before := c.drops()
@@ -179,12 +182,12 @@ func (c *child) mustDrop(test testCase, send func()) {
 	}
 }
 
-// alone logs what memberlist does without the guard. It is used by hand.
-func (c *child) alone(test testCase, send func()) {
+// logWithoutGuard logs what memberlist does with a case without the guard. It is for use by hand.
+func (c *child) logWithoutGuard(test testCase, send func()) {
 	other := startChild(c.T, c.childOptions)
 	c.udp, c.address = other.udp, other.address
 	send()
-	time.Sleep(200 * time.Millisecond) // memberlist queues news about nodes.
+	time.Sleep(200 * time.Millisecond) // (memberlist queues reports about nodes)
 	what := "lives"
 	if !other.isAlive() {
 		what = "DIES"
@@ -192,53 +195,57 @@ func (c *child) alone(test testCase, send func()) {
 	c.Logf("%-6s %6d KiB %s", what, other.peakKiB(), test.name)
 }
 
-func header(nodes, length any) []byte {
+// pushPullHeader returns the head of a push/pull that announces these numbers of entries and of state bytes.
+func pushPullHeader(nodes, length any) []byte {
 	return message(msgPushPull, map[string]any{"Nodes": nodes, "UserStateLen": length, "Join": true})
 }
 
-func entry(changes map[string]any) []byte {
+// pushPullWithBadEntry returns a push/pull whose second of three entries has these changes.
+func pushPullWithBadEntry(changes map[string]any) []byte {
 	return pushPull([]map[string]any{node("first", nil), node("bad", changes), node("last", nil)}, 50)
 }
 
+// streamCases returns streams that the guard refuses, or out of which it cuts an entry.
 func streamCases() []testCase {
 	nested := pushPull(nil, 0)
 	at := bytes.Index(nested, []byte("Join"))
 	user := func(n any) []byte { return message(msgUser, map[string]any{"UserMsgLen": n}) }
 	return []testCase{
-		{"D nodes below 0", header(-1, 0), Length},
-		{"D 2^40 nodes", header(1<<40, 0), Length},
-		{"M 10,000,000 nodes", header(10_000_000, 0), Length},
-		{"a state of -1 bytes", header(0, -1), Length},
-		{"D a state of 2^50 bytes", header(0, 1<<50), Length},
-		{"M a state of 2^30 bytes", header(0, 1<<30), Length},
+		{"D nodes below 0", pushPullHeader(-1, 0), Length},
+		{"D 2^40 nodes", pushPullHeader(1<<40, 0), Length},
+		{"M 10,000,000 nodes", pushPullHeader(10_000_000, 0), Length},
+		{"a state of -1 bytes", pushPullHeader(0, -1), Length},
+		{"D a state of 2^50 bytes", pushPullHeader(0, 1<<50), Length},
+		{"M a state of 2^30 bytes", pushPullHeader(0, 1<<30), Length},
 		{"D a user's message of 2^50 bytes", user(1 << 50), Length},
 		{"a user's message of 65,537 bytes", append(user(65537), zeros(65537)...), Length},
 		{"D an empty result of LZW", compressed(nil), Empty},
 		{"M a decompression bomb", compressed(zeros(20 << 20)), Inflated},
-		{"a push/pull of more than 4 MiB", append(header(0, 4<<20), zeros(4<<20)...), TooLong},
+		{"a push/pull of more than 4 MiB", append(pushPullHeader(0, 4<<20), zeros(4<<20)...), TooLong},
 		{"compressed twice", compressed(compressed(pushPull(nil, 0))), Nested},
 		{"a compound", compound([]byte{msgUser}), Nested},
 		{"D a map of 32-bit length", append(nested[:at+4:at+4], 0xdf, 255, 255, 255, 255), Malformed},
 		{"an array for a map", message(msgPushPull, []any{0, 0, true}), Malformed},
 		{"M a text of 2^31 bytes", append(nested[:at+4:at+4], 0xdb, 127, 255, 255, 255), Malformed},
-		{"an entry that is a number", append(header(1, 0), 7), Malformed},
+		{"an entry that is a number", append(pushPullHeader(1, 0), 7), Malformed},
 		{"an ack to nobody", message(msgAck, map[string]any{"SeqNo": 1, "Payload": nil}), Kind},
 		{"an unknown type", []byte{99, 0}, Kind},
-		{"cut off within an entry", entry(nil)[:100], Short},
-		{"fewer bytes than the state has", header(0, 50), Short},
-		{"D an entry's Vsn of 1", entry(map[string]any{"Vsn": zeros(1)}), Versions},
-		{"D an entry's Vsn of 5", entry(map[string]any{"Vsn": zeros(5)}), Versions},
-		{"an entry's Vsn that no node supports", entry(map[string]any{"Vsn": []byte{5, 5, 5, 2, 5, 4}}), Versions},
-		{"an entry without a name", entry(map[string]any{"Name": absent}), Name},
-		{"an entry's name of 256 bytes", entry(map[string]any{"Name": string(zeros(256))}), Name},
-		{"an entry's address of 5 bytes", entry(map[string]any{"Addr": zeros(5)}), Address},
-		{"an entry's Meta of 60,000 bytes", entry(map[string]any{"Meta": zeros(60000)}), Meta},
-		{"an entry's state of 4", entry(map[string]any{"State": 4}), Range},
-		{"an entry's incarnation of 33 bits", entry(map[string]any{"Incarnation": 1 << 32}), Range},
-		{"an entry with an unknown field of 2,000 bytes", entry(map[string]any{"Xtra": zeros(2000)}), Malformed},
+		{"cut off within an entry", pushPullWithBadEntry(nil)[:100], Short},
+		{"fewer bytes than the state has", pushPullHeader(0, 50), Short},
+		{"D an entry's Vsn of 1", pushPullWithBadEntry(map[string]any{"Vsn": zeros(1)}), Versions},
+		{"D an entry's Vsn of 5", pushPullWithBadEntry(map[string]any{"Vsn": zeros(5)}), Versions},
+		{"an entry's Vsn that no node supports", pushPullWithBadEntry(map[string]any{"Vsn": []byte{5, 5, 5, 2, 5, 4}}), Versions},
+		{"an entry without a name", pushPullWithBadEntry(map[string]any{"Name": absent}), Name},
+		{"an entry's name of 256 bytes", pushPullWithBadEntry(map[string]any{"Name": string(zeros(256))}), Name},
+		{"an entry's address of 5 bytes", pushPullWithBadEntry(map[string]any{"Addr": zeros(5)}), Address},
+		{"an entry's Meta of 60,000 bytes", pushPullWithBadEntry(map[string]any{"Meta": zeros(60000)}), Meta},
+		{"an entry's state of 4", pushPullWithBadEntry(map[string]any{"State": 4}), Range},
+		{"an entry's incarnation of 33 bits", pushPullWithBadEntry(map[string]any{"Incarnation": 1 << 32}), Range},
+		{"an entry with an unknown field of 2,000 bytes", pushPullWithBadEntry(map[string]any{"Xtra": zeros(2000)}), Malformed},
 	}
 }
 
+// sealedStreams is sealedPackets for streams.
 func sealedStreams() []testCase {
 	old := sealStreamWith(testKey, append([]byte{msgUser}, bytes.Repeat([]byte{200}, 40)...))
 	old[streamHeader] = 0
@@ -274,7 +281,7 @@ func TestStreamCases(t *testing.T) {
 	}
 }
 
-// The same cases are dropped when they are the answer to a push/pull of this node.
+// The guard also drops these cases if they are the answer to a push/pull of this node.
 func TestAnswers(t *testing.T) {
 	for _, isKeyed := range []bool{false, true} {
 		c := startChild(t, childOptions{IsKeyed: isKeyed})

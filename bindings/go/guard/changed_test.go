@@ -13,17 +13,17 @@ import (
 	"time"
 )
 
-// numberOf reads a number from the environment, for longer runs by hand: GUARD_PACKETS and GUARD_STREAMS of each type,
+// envNumber reads a number from the environment, for longer runs by hand: GUARD_PACKETS and GUARD_STREAMS of each type,
 // GUARD_SECONDS for the flood and for honest nodes, GUARD_NODES honest nodes, GUARD_READS comparisons with go-msgpack,
 // and GUARD_SEED.
-func numberOf(variable string, otherwise int) int {
+func envNumber(variable string, otherwise int) int {
 	if n, err := strconv.Atoi(os.Getenv(variable)); err == nil {
 		return n
 	}
 	return otherwise
 }
 
-// fragments are what mutate inserts.
+// fragments are the bytes that mutate inserts into messages.
 var fragments = [][]byte{
 	{0}, {0x7f}, {0x80}, {0x8f}, {0x90}, {0x9f, 0x9f}, {0xa0}, {0xbf}, {0xc0}, {0xc1}, {0xc2}, {0xc4, 0xff}, {0xc5, 0xff, 0xff},
 	{0xc6, 0xff, 0xff, 0xff, 0xff}, {0xc9, 0x7f, 0xff, 0xff, 0xff, 1}, {0xcb}, {0xcc, 0xff}, {0xcd, 0xff, 0xff}, {0xce, 0xff, 0xff, 0xff, 0xff},
@@ -70,7 +70,7 @@ type generator struct {
 	make func(r *rand.Rand) []byte
 }
 
-// changedPackets generate packets that were changed inside or outside of their wrappers.
+// changedPackets returns generators of packets that were changed inside or outside of their wrappers.
 func changedPackets() []generator {
 	name := func(r *rand.Rand) string { return fmt.Sprint("node", r.Intn(5000)) }
 	number := func(r *rand.Rand) uint32 { return uint32(r.Intn(2000)) }
@@ -80,7 +80,7 @@ func changedPackets() []generator {
 	plain := []generator{
 		{"ping", func(r *rand.Rand) []byte { return message(msgPing, ping) }},
 		{"indirect", func(r *rand.Rand) []byte {
-			return message(msgIndirectPing, with(ping, map[string]any{"Target": []byte{127, 0, 0, 1}, "Port": 9, "Nack": true}))
+			return message(msgIndirectPing, withChanges(ping, map[string]any{"Target": []byte{127, 0, 0, 1}, "Port": 9, "Nack": true}))
 		}},
 		{"ack", func(r *rand.Rand) []byte {
 			return message(msgAck, map[string]any{"SeqNo": number(r), "Payload": zeros(r.Intn(50))})
@@ -113,24 +113,25 @@ func changedPackets() []generator {
 			}
 			return mutate(r, three(r))
 		}},
-		generator{"compressed", wrapped(compressed)}, generator{"with a CRC", wrapped(checked)},
-		generator{"compressed, with a CRC", wrapped(func(b []byte) []byte { return checked(compressed(b)) })})
+		generator{"compressed", wrapped(compressed)}, generator{"with a CRC", wrapped(withChecksum)},
+		generator{"compressed, with a CRC", wrapped(func(b []byte) []byte { return withChecksum(compressed(b)) })})
 }
 
-// senders are a cluster without a key, a sender that has the key, and one that changes what others encrypted.
+// senders are the kinds of senders: in a cluster without a key, with the key, and without the key but changing packets
+// that others encrypted.
 var senders = []string{"without a key", "from a sender with the key", "changed without the key"}
 
 func TestChangedPackets(t *testing.T) {
-	count, r := numberOf("GUARD_PACKETS", 200), rand.New(rand.NewSource(int64(numberOf("GUARD_SEED", 1))))
-	for by, name := range senders {
-		c := startChild(t, childOptions{IsKeyed: by > 0})
+	count, r := envNumber("GUARD_PACKETS", 200), rand.New(rand.NewSource(int64(envNumber("GUARD_SEED", 1))))
+	for sender, name := range senders {
+		c := startChild(t, childOptions{IsKeyed: sender > 0})
 		began := time.Now()
 		for _, kind := range changedPackets() {
 			for n := 1; n <= count; n++ {
 				packet := kind.make(r)
-				if by == 1 {
+				if sender == 1 {
 					packet = c.seal(packet)
-				} else if by == 2 {
+				} else if sender == 2 {
 					packet = mutate(r, c.seal(packet))
 				}
 				c.udp.Write(packet)
@@ -144,6 +145,7 @@ func TestChangedPackets(t *testing.T) {
 	}
 }
 
+// changedStreams returns generators of streams that were changed inside or outside of their wrapper.
 func changedStreams() []generator {
 	states := func(r *rand.Rand) []byte {
 		var nodes []map[string]any
@@ -156,7 +158,7 @@ func changedStreams() []generator {
 		return append(message(msgUser, map[string]any{"UserMsgLen": 40}), zeros(40)...)
 	}
 	plain := []func(r *rand.Rand) []byte{states, user}
-	within := func(r *rand.Rand) []byte {
+	compressedAndChanged := func(r *rand.Rand) []byte {
 		m := plain[r.Intn(2)](r)
 		if r.Intn(2) == 0 {
 			return compressed(mutate(r, m))
@@ -168,19 +170,19 @@ func changedStreams() []generator {
 	}
 	return []generator{
 		{"push/pull", changed(states)}, {"user", changed(user)}, {"ping", changed(func(r *rand.Rand) []byte { return message(msgPing, ping) })},
-		{"compressed", within}, {"ack", changed(func(r *rand.Rand) []byte { return message(msgAck, map[string]any{"SeqNo": 1, "Payload": nil}) })},
+		{"compressed", compressedAndChanged}, {"ack", changed(func(r *rand.Rand) []byte { return message(msgAck, map[string]any{"SeqNo": 1, "Payload": nil}) })},
 		{"error", changed(func(r *rand.Rand) []byte { return message(msgErr, map[string]any{"Error": "text"}) })},
 		{"a bad entry", func(r *rand.Rand) []byte {
 			bad := append(encode(node("a", nil)), mutate(r, encode(node("b", nil)))...)
-			return append(append(header(3, 0), bad...), encode(node("c", nil))...)
+			return append(append(pushPullHeader(3, 0), bad...), encode(node("c", nil))...)
 		}},
 	}
 }
 
 func TestChangedStreams(t *testing.T) {
-	count, seed := numberOf("GUARD_STREAMS", 10), int64(numberOf("GUARD_SEED", 1))
-	for by, name := range senders {
-		c := startChild(t, childOptions{IsKeyed: by > 0})
+	count, seed := envNumber("GUARD_STREAMS", 10), int64(envNumber("GUARD_SEED", 1))
+	for sender, name := range senders {
+		c := startChild(t, childOptions{IsKeyed: sender > 0})
 		began := time.Now()
 		for _, kind := range changedStreams() {
 			var workers sync.WaitGroup
@@ -189,7 +191,7 @@ func TestChangedStreams(t *testing.T) {
 				go func(r *rand.Rand) {
 					defer workers.Done()
 					for n := 0; n < (count+3)/4; n++ {
-						c.send(c.changedStream(r, kind, by))
+						c.send(c.changedStream(r, kind, sender))
 					}
 				}(rand.New(rand.NewSource(seed + worker)))
 			}
@@ -200,15 +202,16 @@ func TestChangedStreams(t *testing.T) {
 		}
 		c.mustJoin()
 		t.Logf("%s: %d of each type, %v, %d KiB at most, dropped: %v", name, count, time.Since(began).Round(time.Second), c.peakKiB(), c.drops())
-		c.changedAnswers(rand.New(rand.NewSource(seed)), count, by)
+		c.changedAnswers(rand.New(rand.NewSource(seed)), count, sender)
 	}
 }
 
-func (c *child) changedStream(r *rand.Rand, kind generator, by int) []byte {
+// changedStream makes a stream as this kind of sender can send it.
+func (c *child) changedStream(r *rand.Rand, kind generator, sender int) []byte {
 	out := kind.make(r)
-	if by == 1 {
+	if sender == 1 {
 		return c.sealStream(out)
-	} else if by == 2 {
+	} else if sender == 2 {
 		return mutate(r, c.sealStream(out))
 	}
 	return out
@@ -230,21 +233,21 @@ func (c *child) send(bytes []byte) {
 }
 
 // changedAnswers makes the child join a node that answers with changed streams.
-func (c *child) changedAnswers(r *rand.Rand, count, by int) {
+func (c *child) changedAnswers(r *rand.Rand, count, sender int) {
 	kinds := changedStreams()
 	for n := 0; n < count; n++ {
 		var answer string
-		c.ask("join "+serveOnce(c.T, c.changedStream(r, kinds[n%len(kinds)], by)), &answer)
+		c.ask("join "+serveOnce(c.T, c.changedStream(r, kinds[n%len(kinds)], sender)), &answer)
 	}
 	c.mustJoin()
-	c.Logf("%s: %d answers, %d KiB at most, dropped: %v", senders[by], count, c.peakKiB(), c.drops())
+	c.Logf("%s: %d answers, %d KiB at most, dropped: %v", senders[sender], count, c.peakKiB(), c.drops())
 }
 
 // Changed packets, changed streams and idle streams arrive at once, as fast as possible.
 func TestAllAtOnce(t *testing.T) {
-	length := time.Duration(numberOf("GUARD_SECONDS", 1)) * time.Second
-	for by, name := range senders[:2] {
-		c := startChild(t, childOptions{IsKeyed: by > 0})
+	length := time.Duration(envNumber("GUARD_SECONDS", 1)) * time.Second
+	for sender, name := range senders[:2] {
+		c := startChild(t, childOptions{IsKeyed: sender > 0})
 		counts := c.flood(length, 0)
 		if !c.isAlive() {
 			c.Fatal("no answer")
@@ -256,13 +259,13 @@ func TestAllAtOnce(t *testing.T) {
 
 // flood sends changed packets, changed streams and idle streams for the given time, and counts each kind.
 func (c *child) flood(length time.Duration, seed int64) (counts [3]int64) {
-	packets, streams, end, by := changedPackets(), changedStreams(), time.Now().Add(length), 0
+	packets, streams, end, sender := changedPackets(), changedStreams(), time.Now().Add(length), 0
 	if c.IsKeyed {
-		by = 1
+		sender = 1
 	}
 	send := []func(*rand.Rand){
 		func(r *rand.Rand) { c.udp.Write(c.seal(packets[r.Intn(len(packets))].make(r))) },
-		func(r *rand.Rand) { c.send(c.changedStream(r, streams[r.Intn(len(streams))], by)) },
+		func(r *rand.Rand) { c.send(c.changedStream(r, streams[r.Intn(len(streams))], sender)) },
 		func(r *rand.Rand) {
 			if conn, err := net.Dial("tcp", c.address); err == nil {
 				conn.Write(c.sealStream(pushPull(nil, 1<<20))[:1+r.Intn(1<<20)])

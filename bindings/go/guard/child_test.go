@@ -22,19 +22,20 @@ const childVariable = "GUARD_CHILD"
 
 var testKey = []byte("sixteen bytes is")
 
-// childOptions is how a child runs, in JSON.
+// childOptions are the options of a child. A test passes them to it as JSON.
 type childOptions struct {
 	Name    string
 	IsKeyed bool
-	// IsAlone leaves the guard out. With GUARD_ALONE set all children do so, to see by hand what memberlist does.
+	// IsAlone makes the child run without the guard. If GUARD_ALONE is set, all children run without it, so that you
+	// can see by hand what memberlist does.
 	IsAlone bool
 	// IsHonest shortens memberlist's intervals and enlarges its states. IsCompressed compresses gossip.
 	IsHonest, IsCompressed bool
 	Members                int
-	// IsProving makes new nodes prove their addresses, as IsHonest does. Others are admitted without a ping, since nobody
-	// answers for the nodes that most tests invent.
+	// IsProving makes new nodes prove their addresses; IsHonest implies that. Otherwise, the guard admits them without
+	// a ping, since nobody answers for the nodes that most tests invent.
 	IsProving bool
-	// Advertise is the address that the child reports, if it isn't its real one.
+	// Advertise is the address that the child reports to others. It is empty if the child reports its real one.
 	Advertise string
 }
 
@@ -82,6 +83,7 @@ func (t *delegate) sendAll(list *memberlist.Memberlist) string {
 	return ""
 }
 
+// testConfig returns memberlist's configuration for a node on loopback.
 func testConfig(name string, isKeyed bool) *memberlist.Config {
 	c := memberlist.DefaultLANConfig()
 	c.Name, c.BindAddr, c.BindPort, c.LogOutput, c.Delegate = name, "127.0.0.1", 0, io.Discard, newDelegate(100)
@@ -100,19 +102,19 @@ func TestMain(m *testing.M) {
 	os.Exit(m.Run())
 }
 
-// local is a transport that sends only to this host, whatever address a packet claims.
-type local struct{ *Transport }
+// localTransport is a transport that sends only to this host, whatever address a packet claims.
+type localTransport struct{ *Transport }
 
 func isLocal(address string) bool { return strings.HasPrefix(address, "127.") }
 
-func (l local) WriteToAddress(b []byte, to memberlist.Address) (time.Time, error) {
+func (l localTransport) WriteToAddress(b []byte, to memberlist.Address) (time.Time, error) {
 	if !isLocal(to.Addr) {
 		return time.Now(), nil
 	}
 	return l.Transport.WriteToAddress(b, to)
 }
 
-func (l local) DialAddressTimeout(to memberlist.Address, timeout time.Duration) (net.Conn, error) {
+func (l localTransport) DialAddressTimeout(to memberlist.Address, timeout time.Duration) (net.Conn, error) {
 	if !isLocal(to.Addr) {
 		return nil, fmt.Errorf("%s is not on this host", to.Addr)
 	}
@@ -132,7 +134,7 @@ func runChild(encoded string) {
 		c.PushPullInterval, c.GossipInterval = 500*time.Millisecond, 20*time.Millisecond
 	}
 	if options.IsProving {
-		c.CIDRsAllowed, _ = memberlist.ParseCIDRs([]string{"127.0.0.0/8"}) // The guard pings no other address.
+		c.CIDRsAllowed, _ = memberlist.ParseCIDRs([]string{"127.0.0.0/8"}) // (the guard pings no other addresses)
 	}
 	if options.Advertise != "" {
 		c.AdvertiseAddr = options.Advertise
@@ -151,7 +153,7 @@ func runChild(encoded string) {
 		if transport, err = New(c, settings); err != nil {
 			panic(err)
 		}
-		c.Transport = local{transport}
+		c.Transport = localTransport{transport}
 	}
 	list, err := memberlist.Create(c)
 	if err != nil {
@@ -159,12 +161,13 @@ func runChild(encoded string) {
 	}
 	fmt.Println(list.LocalNode().Port)
 	for lines := bufio.NewScanner(os.Stdin); lines.Scan(); {
-		out, _ := json.Marshal(answer(list, delegate, transport, strings.Fields(lines.Text())))
+		out, _ := json.Marshal(runCommand(list, delegate, transport, strings.Fields(lines.Text())))
 		fmt.Println(string(out))
 	}
 }
 
-func answer(list *memberlist.Memberlist, d *delegate, transport *Transport, words []string) any {
+// runCommand runs the command of a line in the child, and returns the answer.
+func runCommand(list *memberlist.Memberlist, d *delegate, transport *Transport, words []string) any {
 	switch words[0] {
 	case "drops":
 		named := map[string]uint64{}
@@ -210,6 +213,7 @@ type child struct {
 	number  uint32
 }
 
+// startChild starts a child process, and connects a socket to it.
 func startChild(t *testing.T, options childOptions) *child {
 	t.Helper()
 	if options.Name == "" {
@@ -244,7 +248,7 @@ func startChild(t *testing.T, options childOptions) *child {
 	return c
 }
 
-// hasRace reports whether the race detector found a race of the guard's. memberlist has other races, for example
+// hasRace reports whether the race detector found a race in the guard. memberlist itself has other races, for example
 // in a node's address.
 func hasRace(output string) bool {
 	isAccess := false
@@ -294,7 +298,7 @@ func (c *child) sealStream(message []byte) []byte {
 	return message
 }
 
-// isAlive pings the child until an ack arrives. By then it has inspected all packets that were sent before.
+// isAlive pings the child until an ack arrives. By then, the child has inspected all packets that were sent before.
 func (c *child) isAlive() bool {
 	buf := make([]byte, 65536)
 	for try := 0; try < 20; try++ {
@@ -318,7 +322,7 @@ func (c *child) isAlive() bool {
 	return false
 }
 
-// call sends a stream, and returns what the child answers until it closes the stream.
+// call sends a stream, and returns the bytes with which the child answers until it closes the stream.
 func (c *child) call(bytes []byte, isClosed bool) []byte {
 	conn, err := net.Dial("tcp", c.address)
 	if err != nil {
@@ -334,7 +338,7 @@ func (c *child) call(bytes []byte, isClosed bool) []byte {
 	return answer
 }
 
-// mustJoin expects an answer to an honest node's push/pull.
+// mustJoin sends an honest node's push/pull, and expects an answer.
 func (c *child) mustJoin() {
 	c.Helper()
 	answer := c.call(c.sealStream(pushPull([]map[string]any{node("honest", nil)}, 10)), false)
@@ -346,7 +350,7 @@ func (c *child) mustJoin() {
 	}
 }
 
-// peakKiB returns the maximum memory that the child had, in KiB.
+// peakKiB returns the maximum memory that the child has used so far, in KiB.
 func (c *child) peakKiB() (kib int) {
 	status, _ := os.ReadFile(fmt.Sprintf("/proc/%d/status", c.process.Process.Pid))
 	for _, line := range strings.Split(string(status), "\n") {

@@ -27,7 +27,7 @@ func ExampleNew() {
 
 func ExampleAround() {
 	config := memberlist.DefaultLANConfig()
-	// It stands for a transport of the program's, such as one over TLS.
+	// A program would use its own transport here, such as one over TLS.
 	own, err := memberlist.NewNetTransport(&memberlist.NetTransportConfig{BindAddrs: []string{"127.0.0.1"}, Logger: log.Default()})
 	if err != nil {
 		panic(err)

@@ -11,13 +11,15 @@
 //
 // The package is tested, not proved.
 //
-// The guard drops what is malformed or out of bounds, and counts it by a fixed set of reasons. If only a part of a
-// compound message or an entry of a push/pull is bad, the guard cuts out that part and passes on the rest, because
-// honest nodes relay what they received. Everything else reaches memberlist byte for byte. If gossip is encrypted, the
-// guard decrypts it for the inspection, and encrypts anew only what it changed.
+// The guard drops packets and streams that are malformed or out of bounds, and counts them for each of a fixed set of
+// reasons. If only a part of a compound message or an entry of a push/pull is bad, the guard cuts out that part and
+// passes on the rest, because honest nodes may have relayed the bad part. Everything else reaches memberlist byte for
+// byte. If gossip is encrypted, the guard decrypts it for the inspection, and encrypts again only the messages that it
+// changed.
 //
-// A new node has to prove that it is there: the guard holds back what is reported of it until its address has answered a
-// ping of the guard's own. If nobody in a join proves that, or there is no room, the join returns an error.
+// A new node has to prove that it exists: the guard sends a ping to the node's address, and holds back all reports of
+// the node until the address answers. If no node in a join proves that, or if there is no room, the join returns an
+// error.
 //
 // No transport can decide who may send: forged news about known nodes, replays and floods pass the guard. The program itself
 // has to check the contents of user messages, user states and ack payloads. A program that has to stay within a memory
@@ -36,17 +38,17 @@ import (
 	"github.com/hashicorp/memberlist"
 )
 
-// Settings are the guard's bounds. A bound of 0 stands for the value of Defaults.
+// Settings has the guard's bounds. A bound of 0 means the value of Defaults.
 type Settings struct {
 	// PacketBytes is the maximum size of a packet in bytes, both as received and after decompression.
 	PacketBytes int
 	// StreamBytes is the maximum size in bytes of a stream's message as received, after decryption, and after
-	// decompression. AllBytes is the maximum that all streams hold together.
+	// decompression. AllBytes is the maximum number of bytes that all streams hold together.
 	StreamBytes, AllBytes int
-	// Streams is the maximum number of accepted streams that are open at once. When one more arrives, the oldest stream
-	// whose message is incomplete is closed. PushPulls is the maximum number of push/pulls that memberlist answers with
-	// its own state at once. If it knows many nodes, the answers also have to fit into AllBytes, at 1 KiB for each node.
-	// Other push/pulls wait, for at most memberlist's deadline for a stream.
+	// Streams is the maximum number of accepted streams that are open at once. When one more arrives, the guard closes
+	// the oldest stream whose message is incomplete. PushPulls is the maximum number of push/pulls that memberlist
+	// answers with its own state at once. If memberlist knows many nodes, these answers also have to fit into AllBytes,
+	// at 1 KiB for each node. Other push/pulls wait, but no longer than memberlist's deadline for a stream.
 	Streams, PushPulls int
 	// Nodes is the maximum number of entries in a push/pull.
 	Nodes int
@@ -55,24 +57,24 @@ type Settings struct {
 	UserBytes, AckBytes int
 	// IndirectPings is the maximum number of indirect pings that reach memberlist in a second.
 	IndirectPings int
-	// Members is the maximum number of known nodes. When it is reached, new nodes are not admitted. NamesPerAddress is the
-	// maximum number of known nodes at one IP address, on any ports.
+	// Members is the maximum number of known nodes. When it is reached, the guard admits no new nodes. NamesPerAddress
+	// is the maximum number of known nodes at one IP address, on all ports together.
 	Members, NamesPerAddress int
-	// AdmitUnproven admits new nodes as memberlist does, without a ping. A flood of forged nodes then fills the table of
-	// members, so set it only for a transport by which nodes can't answer pings.
+	// AdmitUnproven makes the guard admit new nodes without a ping, as memberlist does. A flood of forged nodes can
+	// then fill the table of members, so set it only for a transport over which nodes can't answer pings.
 	AdmitUnproven bool
-	// Known returns how many nodes are known, and whether a node of that name is among them. Several goroutines call
-	// it, once for each node that a message reports as alive. If it is nil, the guard counts the nodes that
-	// memberlist's events reported, and dead nodes until memberlist forgets them.
+	// Known returns how many nodes are known, and whether a node with this name is among them. Several goroutines call
+	// it, once for each node that a message reports as alive. If Known is nil, the guard counts the nodes that
+	// memberlist's events reported, including dead nodes until memberlist forgets them.
 	Known func(name string) (members int, isKnown bool)
-	// MakeRoom, if it isn't nil, is called when Members is reached and a node has proven its address. It makes the program
-	// forget a node that failed or left, and returns whether it did.
+	// MakeRoom, if it isn't nil, is called when Members is reached and a new node has proven its address. It should
+	// make the program forget a node that failed or left, and return whether it did.
 	MakeRoom func() bool
 	// Protocols and Delegates are the ranges of memberlist's protocol version and of the delegate's protocol version.
-	// Every node has to understand the whole range and speak a version within it, so no two admitted nodes refuse each
-	// other. If the maximum of Protocols is 0, its range is 1 to 5; if that of Delegates is 0, its range is
-	// DelegateProtocolMin to DelegateProtocolMax of memberlist's configuration. To move a cluster to other versions,
-	// set what its oldest node understands.
+	// The guard admits only nodes that understand the whole range and speak a version within it, so no two admitted
+	// nodes refuse each other. If the maximum of Protocols is 0, its range is 1 to 5; if that of Delegates is 0, its
+	// range is DelegateProtocolMin to DelegateProtocolMax of memberlist's configuration. To move a cluster to other
+	// versions, set the ranges that its oldest node understands.
 	Protocols, Delegates VersionRange
 }
 
@@ -143,19 +145,19 @@ type core struct {
 	candidates          *candidates
 	pings               pings
 	streams             streams
-	// indirectPings limits indirect pings, and loggedRefusals how often a refused stream returns an error, which
-	// memberlist logs.
+	// indirectPings limits indirect pings. loggedRefusals limits how often a refused stream returns an error, since
+	// memberlist logs each of these errors.
 	indirectPings, loggedRefusals rate
-	// protocol, bindPort, hasMerge, probeTimeout and allows are of memberlist's configuration.
+	// protocol, bindPort, hasMerge, probeTimeout and isIPAllowed are taken from memberlist's configuration.
 	protocol     uint8
 	bindPort     func() int
 	hasMerge     bool
 	probeTimeout time.Duration
-	allows       func(netip.Addr) bool
+	isIPAllowed  func(netip.Addr) bool
 }
 
-// watch makes the lists of members and candidates, and wraps Events of the configuration.
-func (c *core) watch(config *memberlist.Config) {
+// setUpMembers makes the lists of members and candidates, and wraps Events of the configuration.
+func (c *core) setUpMembers(config *memberlist.Config) {
 	c.members = newMembers(&c.bounds, config)
 	c.probeTimeout = config.ProbeTimeout
 	if c.probeTimeout <= 0 {
@@ -171,7 +173,7 @@ func (c *core) watch(config *memberlist.Config) {
 	}
 	c.candidates = newCandidates(c.members, &c.drops, c.bounds.NamesPerAddress, interval)
 	c.protocol, c.bindPort, c.hasMerge = config.ProtocolVersion, func() int { return config.BindPort }, config.Merge != nil
-	c.allows = func(ip netip.Addr) bool { return config.IPAllowed(ip.AsSlice()) == nil }
+	c.isIPAllowed = func(ip netip.Addr) bool { return config.IPAllowed(ip.AsSlice()) == nil }
 }
 
 // minPingInterval is the minimum time between two pings of a candidate: a host may be busy, even if the network is fast.
@@ -202,13 +204,13 @@ func New(config *memberlist.Config, settings Settings) (*Transport, error) {
 	if config.BindPort == 0 {
 		config.BindPort, config.AdvertisePort = s.port(), s.port()
 	}
-	c.watch(config)
+	c.setUpMembers(config)
 	t := newTransport(c, s, logger(config))
 	s.receive(t)
 	return t, nil
 }
 
-// newCore checks the settings, and makes what the inspectors share, except members.
+// newCore checks the settings, and makes the state that the inspectors share, except members.
 func newCore(config *memberlist.Config, settings Settings) (*core, error) {
 	bounds, err := settings.withDefaults(config)
 	if err != nil {
@@ -227,6 +229,7 @@ func newCore(config *memberlist.Config, settings Settings) (*core, error) {
 	return c, nil
 }
 
+// logger returns the logger of memberlist's configuration, as memberlist chooses it.
 func logger(c *memberlist.Config) *log.Logger {
 	if c.Logger != nil {
 		return c.Logger
@@ -238,5 +241,6 @@ func logger(c *memberlist.Config) *log.Logger {
 	return log.New(to, "", log.LstdFlags)
 }
 
-// Drops returns how much was dropped since New, by reason. It leaves out the reasons for which nothing was dropped.
+// Drops returns for each reason how many packets, streams and parts were dropped since New. It leaves out the reasons
+// for which nothing was dropped.
 func (t *Transport) Drops() map[Reason]uint64 { return t.drops.counts() }

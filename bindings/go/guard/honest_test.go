@@ -9,6 +9,7 @@ import (
 	"time"
 )
 
+// eventually waits until the condition holds, and fails the test with what after a minute.
 func eventually(t *testing.T, what string, holds func() bool) {
 	t.Helper()
 	for end := time.Now().Add(60 * time.Second); !holds(); time.Sleep(20 * time.Millisecond) {
@@ -18,7 +19,7 @@ func eventually(t *testing.T, what string, holds func() bool) {
 	}
 }
 
-// mustSucceed expects that the child answers a line with the empty text.
+// mustSucceed sends a line to the child, and expects the empty text as its answer.
 func (c *child) mustSucceed(line string) {
 	c.Helper()
 	var answer string
@@ -27,14 +28,15 @@ func (c *child) mustSucceed(line string) {
 	}
 }
 
+// count sends a line to the child, and returns the number that it answers.
 func (c *child) count(line string) (n int) {
 	c.ask(line, &n)
 	return n
 }
 
-// Guarded and stock nodes form a cluster, and the guard drops nothing of what they send.
+// Guarded and stock nodes form a cluster, and the guard drops nothing that they send.
 func TestHonest(t *testing.T) {
-	count, length := numberOf("GUARD_NODES", 3), time.Duration(numberOf("GUARD_SECONDS", 2))*time.Second
+	count, length := envNumber("GUARD_NODES", 3), time.Duration(envNumber("GUARD_SECONDS", 2))*time.Second
 	for i := 0; i < 4; i++ {
 		isKeyed, isCompressed := i&1 != 0, i&2 != 0
 		t.Run(fmt.Sprintf("keyed=%v compressed=%v", isKeyed, isCompressed), func(t *testing.T) {
@@ -51,7 +53,7 @@ func TestHonest(t *testing.T) {
 			for _, c := range nodes {
 				eventually(t, "not all nodes are members", func() bool { return c.count("members") == count })
 			}
-			// Pings and push/pulls continue meanwhile.
+			// Pings and push/pulls continue during this time.
 			for end := time.Now().Add(length); time.Now().Before(end); time.Sleep(length / 4) {
 				for _, c := range nodes {
 					c.mustSucceed("say")
@@ -79,11 +81,11 @@ func TestHonest(t *testing.T) {
 	}
 }
 
-// manyNames is the maximum number of names at one address in tests that invent many there.
+// manyNames is the maximum number of names at one address in tests that invent many nodes at one address.
 const manyNames = 1 << 20
 
-// testGuard makes a transport without a memberlist over it. It admits new nodes without a ping, since nobody answers for the
-// nodes that the tests invent.
+// testGuard makes a guard's transport that no memberlist uses. It admits new nodes without a ping, since nobody answers
+// for the nodes that the tests invent.
 func testGuard(t testing.TB, isKeyed bool, settings Settings) *Transport {
 	t.Helper()
 	settings.AdmitUnproven = true
@@ -98,17 +100,19 @@ func testGuard(t testing.TB, isKeyed bool, settings Settings) *Transport {
 	return guarded
 }
 
-func pass(g *Transport, packet []byte) []byte { return newInspector(g.core).inspect(packet) }
+// inspectPacket returns the bytes of a packet that memberlist may read, or nil.
+func inspectPacket(g *Transport, packet []byte) []byte { return newInspector(g.core).inspect(packet) }
 
+// honestPackets returns packets that memberlist itself sends.
 func honestPackets() [][]byte {
 	from := func(name string) map[string]any { return map[string]any{"Incarnation": 3, "Node": "a", "From": name} }
 	big := compound(message(msgPing, ping), alive("one", nil), alive("two", nil), message(msgSuspect, from("b")), message(msgDead, from("a")),
 		append([]byte{msgUser}, zeros(700)...))
-	indirect := with(ping, map[string]any{"Target": []byte{127, 0, 0, 1}, "Port": 9, "Nack": true})
+	indirect := withChanges(ping, map[string]any{"Target": []byte{127, 0, 0, 1}, "Port": 9, "Nack": true})
 	return [][]byte{
 		message(msgPing, ping), message(msgPing, map[string]any{"SeqNo": 1, "Node": "child"}), message(msgIndirectPing, indirect),
 		alive("one", nil), alive("six", map[string]any{"Addr": net.ParseIP("2001:db8::1")}), alive("nil", map[string]any{"Meta": nil}),
-		alive("new", map[string]any{"Later": true}), {msgUser}, big, checked(big), compressed(big), checked(compressed(big)),
+		alive("new", map[string]any{"Later": true}), {msgUser}, big, withChecksum(big), compressed(big), withChecksum(compressed(big)),
 	}
 }
 
@@ -120,7 +124,7 @@ func TestByteForByte(t *testing.T) {
 		for i, data := range honestPackets() {
 			data = c.seal(data)
 			before := append([]byte(nil), data...)
-			if got := pass(g, data); !bytes.Equal(got, before) {
+			if got := inspectPacket(g, data); !bytes.Equal(got, before) {
 				t.Errorf("packet %d: %x", i, got)
 			}
 		}
@@ -147,7 +151,7 @@ func TestByteForByte(t *testing.T) {
 	}
 }
 
-// readStream returns what memberlist may read of a stream with these bytes.
+// readStream returns the bytes that memberlist may read of a stream with this data.
 func readStream(g *Transport, data []byte, isDialed bool) []byte {
 	here, there := net.Pipe()
 	go func() {
@@ -164,10 +168,11 @@ func readStream(g *Transport, data []byte, isDialed bool) []byte {
 	return out.Bytes()
 }
 
-// Bad parts and entries are cut out, and memberlist reads the rest, which is encrypted anew if there is a key.
+// The guard cuts out bad parts and entries, and memberlist reads the rest. If there is a key, the guard encrypts the
+// rest again.
 func TestCut(t *testing.T) {
 	for _, isKeyed := range []bool{false, true} {
-		for _, wrap := range []func([]byte) []byte{func(b []byte) []byte { return b }, checked, compressed} {
+		for _, wrap := range []func([]byte) []byte{func(b []byte) []byte { return b }, withChecksum, compressed} {
 			c := startChild(t, childOptions{IsKeyed: isKeyed})
 			c.udp.Write(c.seal(wrap(compound(versionsAlive(1), alive("first", nil), []byte{}, alive("second", nil)))))
 			eventually(t, "a good part of a packet was lost", func() bool { return c.count("members") == 3 })
@@ -192,7 +197,8 @@ func TestCut(t *testing.T) {
 	}
 }
 
-// A stock node passes on entries that make another node's join fail. A guarded node joins through it all the same.
+// A stock node passes on entries that make another node's join fail. A guarded node can join through that stock node
+// nevertheless.
 func TestPoison(t *testing.T) {
 	for _, isKeyed := range []bool{false, true} {
 		stock := startChild(t, childOptions{Name: "stock", IsKeyed: isKeyed, IsAlone: true, IsHonest: true})

@@ -8,10 +8,11 @@ import (
 	"github.com/hashicorp/memberlist"
 )
 
-// BenchmarkJoin measures how long a node takes to join a cluster until it knows all members. Each node stays. It is measured over memberlist's own transport,
-// over a guard that admits new nodes without a ping, and over one to which they have to prove their addresses.
+// BenchmarkJoin measures how long a node takes to join a cluster until it knows all members. Each node stays in the
+// cluster. The benchmark runs with memberlist's own transport, with a guard that admits new nodes without a ping, and
+// with a guard to which they have to prove their addresses.
 func BenchmarkJoin(b *testing.B) {
-	count := numberOf("GUARD_NODES", 20)
+	count := envNumber("GUARD_NODES", 20)
 	for _, kind := range []string{"stock", "unproven", "proven"} {
 		b.Run(kind, func(b *testing.B) {
 			start := func(name string) *memberlist.Memberlist {

@@ -8,19 +8,19 @@ import (
 	"github.com/hashicorp/memberlist"
 )
 
-// admitTime is how long the place of an admitted node is kept until memberlist reports that it joined.
+// admitTime is how long members keeps the place of an admitted node until memberlist reports that the node joined.
 const admitTime = 10 * time.Second
 
 // members limits the number of nodes. As memberlist's EventDelegate it learns which nodes join and leave, and passes
 // each event on to the program's own delegate.
 type members struct {
-	own string
-	max int
+	ownName    string
+	maxMembers int
 	// perAddress is the maximum number of names at one IP address.
-	perAddress int
-	known      func(name string) (int, bool)
-	makeRoom   func() bool
-	next       memberlist.EventDelegate
+	perAddress   int
+	known        func(name string) (int, bool)
+	makeRoom     func() bool
+	nextDelegate memberlist.EventDelegate
 	// probeInterval is how often memberlist probes a node, and deadTime how long it gossips to a dead one. memberlist
 	// forgets a dead node after it has probed every other one (state.go, resetNodes).
 	probeInterval, deadTime time.Duration
@@ -31,13 +31,14 @@ type members struct {
 	mu             sync.Mutex
 	alive          map[string]netip.AddrPort
 	left, admitted map[string]place
-	// atIP counts the names of alive, left and admitted at each IP address, and atAddr those of alive at each address.
+	// atIP counts, for each IP address, the names in alive, left and admitted. atAddr counts, for each address and
+	// port, the names in alive.
 	atIP    map[netip.Addr]int
 	atAddr  map[netip.AddrPort]int
 	sweptAt time.Time
 }
 
-// place is the address of a node, and since when it has left or is admitted.
+// place is the address of a node, with the time at which the node left or was admitted.
 type place struct {
 	addr netip.AddrPort
 	at   time.Time
@@ -45,24 +46,24 @@ type place struct {
 
 func newMembers(s *Settings, c *memberlist.Config) *members {
 	m := &members{
-		own: c.Name, max: s.Members, perAddress: s.NamesPerAddress, known: s.Known, makeRoom: s.MakeRoom, probeInterval: c.ProbeInterval,
+		ownName: c.Name, maxMembers: s.Members, perAddress: s.NamesPerAddress, known: s.Known, makeRoom: s.MakeRoom, probeInterval: c.ProbeInterval,
 		deadTime: c.GossipToTheDeadTime, alive: map[string]netip.AddrPort{}, left: map[string]place{}, admitted: map[string]place{},
 		atIP: map[netip.Addr]int{}, atAddr: map[netip.AddrPort]int{},
 	}
-	m.next, c.Events = c.Events, m
+	m.nextDelegate, c.Events = c.Events, m
 	if m.known == nil {
-		m.known = m.seen
+		m.known = m.knownFromEvents
 	}
 	return m
 }
 
-// isProven reports whether a node is known at this address, so that memberlist may have reports of it without a ping.
-// Until memberlist has reported this node itself, it is known at any address.
+// isProven reports whether a node is already known at this address, so that memberlist may receive reports of it
+// without a ping. This node itself counts as known at any address until memberlist has reported it.
 func (m *members) isProven(n nameAt) bool {
 	m.mu.Lock()
 	defer m.mu.Unlock()
 	addr, isAlive := m.alive[n.name]
-	return addr == n.addr || m.left[n.name].addr == n.addr || m.admitted[n.name].addr == n.addr || n.name == m.own && !isAlive
+	return addr == n.addr || m.left[n.name].addr == n.addr || m.admitted[n.name].addr == n.addr || n.name == m.ownName && !isAlive
 }
 
 // hasAddress reports whether a member has this address.
@@ -72,21 +73,22 @@ func (m *members) hasAddress(addr netip.AddrPort) bool {
 	return m.atAddr[addr] > 0
 }
 
-// mayAdmit returns why there will be no place for a node when it has proven its address, or none.
-func (m *members) mayAdmit(n nameAt) Reason {
-	if reason := m.room(n); reason != Full || m.makeRoom == nil {
+// refusalAfterProof returns the reason why a node couldn't have a place even after it proved its address. It returns none if it
+// could.
+func (m *members) refusalAfterProof(n nameAt) Reason {
+	if reason := m.placeRefusal(n); reason != Full || m.makeRoom == nil {
 		return reason
 	}
 	return none
 }
 
-// room returns why there is no place for a node, or none.
-func (m *members) room(n nameAt) Reason {
+// placeRefusal returns the reason why there is no place for a node, or none if there is a place.
+func (m *members) placeRefusal(n nameAt) Reason {
 	now := time.Now()
 	m.sweep(now)
 	// A node that joins at this moment is counted twice rather than not at all.
 	m.mu.Lock()
-	pending := len(m.admitted)
+	admittedCount := len(m.admitted)
 	_, isAdmitted := m.admitted[n.name]
 	m.mu.Unlock()
 	count, isKnown := m.known(n.name)
@@ -101,51 +103,51 @@ func (m *members) room(n nameAt) Reason {
 	switch {
 	case others >= m.perAddress:
 		return Names
-	case !isKnown && !isAdmitted && count+pending >= m.max:
+	case !isKnown && !isAdmitted && count+admittedCount >= m.maxMembers:
 		return Full
 	}
 	return none
 }
 
-// admit reserves a place for a node whose address is proven, until memberlist reports that it joined. It returns why
-// there is none.
+// admit reserves a place for a node with a proven address, until memberlist reports that the node joined. It returns
+// the reason if there is no place, and none otherwise.
 func (m *members) admit(n nameAt) Reason {
 	m.admitMu.Lock()
 	defer m.admitMu.Unlock()
-	reason := m.room(n)
+	reason := m.placeRefusal(n)
 	if reason == Full && m.makeRoom != nil && m.makeRoom() {
-		reason = m.room(n)
+		reason = m.placeRefusal(n)
 	}
 	if reason == none {
 		m.mu.Lock()
 		defer m.mu.Unlock()
-		m.remove(m.admitted, n.name)
+		m.removePlace(m.admitted, n.name)
 		m.admitted[n.name] = place{n.addr, time.Now()}
 		m.atIP[n.addr.Addr()]++
 	}
 	return reason
 }
 
-// remove removes a node from left or admitted. mu is held.
-func (m *members) remove(from map[string]place, name string) {
+// removePlace removes a node from the map left or the map admitted. The caller holds mu.
+func (m *members) removePlace(from map[string]place, name string) {
 	if old, isIn := from[name]; isIn {
 		delete(from, name)
-		m.release(old.addr.Addr())
+		m.releaseIP(old.addr.Addr())
 	}
 }
 
-// release subtracts a name at an address. mu is held.
-func (m *members) release(ip netip.Addr) {
+// releaseIP subtracts one from the number of names at an IP address. The caller holds mu.
+func (m *members) releaseIP(ip netip.Addr) {
 	if m.atIP[ip]--; m.atIP[ip] == 0 {
 		delete(m.atIP, ip)
 	}
 }
 
-// removeAlive removes a node from alive. mu is held.
+// removeAlive removes a node from the map alive. The caller holds mu.
 func (m *members) removeAlive(name string) {
 	if old, isIn := m.alive[name]; isIn {
 		delete(m.alive, name)
-		m.release(old.Addr())
+		m.releaseIP(old.Addr())
 		if m.atAddr[old]--; m.atAddr[old] == 0 {
 			delete(m.atAddr, old)
 		}
@@ -165,16 +167,17 @@ func (m *members) sweep(now time.Time) {
 	m.removeBefore(m.left, now.Add(-m.deadTime-time.Duration(len(m.alive)+2)*m.probeInterval))
 }
 
+// removeBefore removes the places that are older than a time. The caller holds mu.
 func (m *members) removeBefore(places map[string]place, before time.Time) {
 	for name, old := range places {
 		if old.at.Before(before) {
-			m.remove(places, name)
+			m.removePlace(places, name)
 		}
 	}
 }
 
-// seen is the default for Settings.Known: it counts the nodes that memberlist's events reported.
-func (m *members) seen(name string) (int, bool) {
+// knownFromEvents is the default for Settings.Known: it counts the nodes that memberlist's events reported.
+func (m *members) knownFromEvents(name string) (int, bool) {
 	m.mu.Lock()
 	defer m.mu.Unlock()
 	_, isAlive := m.alive[name]
@@ -190,13 +193,13 @@ func addrOfNode(n *memberlist.Node) netip.AddrPort {
 
 // NotifyJoin implements memberlist.EventDelegate.
 func (m *members) NotifyJoin(n *memberlist.Node) {
-	if m.next != nil {
-		m.next.NotifyJoin(n)
+	if m.nextDelegate != nil {
+		m.nextDelegate.NotifyJoin(n)
 	}
 	addr := addrOfNode(n)
 	m.mu.Lock()
-	m.remove(m.left, n.Name)
-	m.remove(m.admitted, n.Name)
+	m.removePlace(m.left, n.Name)
+	m.removePlace(m.admitted, n.Name)
 	m.removeAlive(n.Name)
 	m.alive[n.Name] = addr
 	m.atIP[addr.Addr()]++
@@ -209,18 +212,18 @@ func (m *members) NotifyLeave(n *memberlist.Node) {
 	addr := addrOfNode(n)
 	m.mu.Lock()
 	m.removeAlive(n.Name)
-	m.remove(m.left, n.Name)
+	m.removePlace(m.left, n.Name)
 	m.left[n.Name] = place{addr, time.Now()}
 	m.atIP[addr.Addr()]++
 	m.mu.Unlock()
-	if m.next != nil {
-		m.next.NotifyLeave(n)
+	if m.nextDelegate != nil {
+		m.nextDelegate.NotifyLeave(n)
 	}
 }
 
 // NotifyUpdate implements memberlist.EventDelegate.
 func (m *members) NotifyUpdate(n *memberlist.Node) {
-	if m.next != nil {
-		m.next.NotifyUpdate(n)
+	if m.nextDelegate != nil {
+		m.nextDelegate.NotifyUpdate(n)
 	}
 }

@@ -6,13 +6,13 @@ import (
 	"kitchenrue.example/guard/msgpack"
 )
 
-// reader accepts only what go-msgpack writes for memberlist's types, in which no field's value contains other values, and
-// reads it as go-msgpack does.
+// reader accepts only the encodings that go-msgpack writes for memberlist's types, and reads them as go-msgpack does.
+// In these types, no field's value contains other values.
 type reader struct{ msgpack.Reader }
 
 func newReader(data []byte) reader { return reader{msgpack.Reader{Data: data}} }
 
-// failure returns why nothing more can be read, or none.
+// failure returns the reason why the reader has stopped, or none if it has not.
 func (r *reader) failure() Reason {
 	switch err := r.Err.(type) {
 	case nil:
@@ -23,7 +23,7 @@ func (r *reader) failure() Reason {
 	return Malformed
 }
 
-// failWith notes why nothing more can be read. It does nothing if reason is none.
+// failWith stops the reader for a reason. It does nothing if reason is none.
 func (r *reader) failWith(reason Reason) {
 	if reason != none {
 		r.Fail(refusalError(reason))
@@ -36,8 +36,8 @@ type value struct {
 	bytes  []byte
 }
 
-// scalar reads a value that contains no other values.
-func (r *reader) scalar() value {
+// readScalar reads a value that contains no other values.
+func (r *reader) readScalar() value {
 	kind, size := r.Next()
 	switch kind {
 	case msgpack.Text, msgpack.Bytes:
@@ -57,41 +57,42 @@ const (
 	maxUnknownValue = 1024
 )
 
-// readFields reads a map whose keys are the schema's fields, each at most once, into values. Unknown fields are
-// skipped. If a value is wrong, the rest is read as far as possible, so that the caller knows where the map ends.
+// readFields reads a map into values. The keys are the schema's fields, each at most once; readFields skips unknown
+// fields. If a value is not allowed, it still reads the rest as far as possible, so that the caller knows where the map
+// ends.
 func (r *reader) readFields(s schema, values *[maxFields]value) Reason {
 	head := r.Uint(1)
 	if head&0xf0 != 0x80 {
 		r.failWith(Malformed)
 	}
-	var seen uint
+	var seenFields uint
 	var firstReason Reason
 	for n := head & 0x0f; n > 0 && r.Err == nil; n-- {
-		key := r.scalar()
+		key := r.readScalar()
 		if key.kind != msgpack.Text || len(key.bytes) > maxKey {
 			r.failWith(Malformed)
 		}
-		index, v := s.indexOf(key.bytes), r.scalar()
+		index, v := s.indexOf(key.bytes), r.readScalar()
 		reason := none
 		switch {
-		case index < 0 && len(v.bytes) > maxUnknownValue, index >= 0 && seen&(1<<index) != 0:
+		case index < 0 && len(v.bytes) > maxUnknownValue, index >= 0 && seenFields&(1<<index) != 0:
 			reason = Malformed
 		case index >= 0:
-			seen |= 1 << index
+			seenFields |= 1 << index
 			values[index] = v
 			reason = s[index].check(v)
 		}
 		firstReason = firstReason.or(reason)
 	}
 	for i, f := range s {
-		if seen&(1<<i) == 0 && f.min > 0 {
+		if seenFields&(1<<i) == 0 && f.min > 0 {
 			firstReason = firstReason.or(f.reason)
 		}
 	}
 	return r.failure().or(firstReason)
 }
 
-// appendNumber and appendText encode as go-msgpack does; appendText, a text of less than 32 bytes.
+// appendNumber and appendText encode a value as go-msgpack does. appendText is for texts of less than 32 bytes.
 func appendNumber(out []byte, n uint64) []byte {
 	switch {
 	case n < 0x80:

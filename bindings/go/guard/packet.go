@@ -10,11 +10,11 @@ import (
 // inspector inspects packets, one at a time.
 type inspector struct {
 	*core
-	// plain and inflated are buffers for decrypted and decompressed content. parts are the parts of a compound that are
-	// kept.
+	// plain and inflated are buffers for decrypted and decompressed content. parts has the parts of a compound that the
+	// inspector keeps.
 	plain, inflated []byte
 	parts           [][]byte
-	// from is where the packet came from.
+	// from is the address of the packet's sender.
 	from net.Addr
 }
 
@@ -33,11 +33,11 @@ func (ins *inspector) unwrap(packet []byte, needsEncryption bool) (body []byte, 
 		return nil, nil, Empty
 	}
 	body = packet
-	if ciphers = ins.ring.current(); len(ciphers) > 0 {
+	if ciphers = ins.ring.currentCiphers(); len(ciphers) > 0 {
 		body, reason = open(ciphers, packet, nil, ins.plain)
 		switch {
 		case reason == Sealed && !needsEncryption:
-			// memberlist reads the packet as it is.
+			// memberlist reads the packet without decrypting it.
 			body, ciphers, reason = packet, nil, none
 		case reason == Sealed && !ins.looksEncrypted(packet):
 			return nil, nil, Plain
@@ -65,20 +65,21 @@ func (ins *inspector) looksEncrypted(packet []byte) bool {
 	return len(packet) >= sealOverhead && packet[0] <= sealVersion
 }
 
-func (ins *inspector) decompress(in []byte) ([]byte, Reason) {
-	r := newReader(in)
+// decompress returns the content of a compressed message.
+func (ins *inspector) decompress(packed []byte) ([]byte, Reason) {
+	r := newReader(packed)
 	var values [maxFields]value
 	if reason := r.readFields(ins.schemas.byType[msgCompress], &values); reason != none {
 		return nil, reason
 	}
-	if r.At < len(in) {
+	if r.At < len(packed) {
 		return nil, Trailing
 	}
 	return inflate(values[fieldCompressBuf].bytes, ins.inflated, ins.bounds.PacketBytes, nil)
 }
 
-// inspect returns what memberlist may read of a packet: the same bytes, or a compound without its bad parts, or nil if
-// nothing is left. It counts each drop.
+// inspect returns the bytes of a packet that memberlist may read: all of them, or a compound without its bad parts, or
+// nil if nothing is left. It counts each drop.
 func (ins *inspector) inspect(packet []byte) []byte {
 	if len(packet) > ins.bounds.PacketBytes {
 		ins.drops.add(TooLong)
@@ -112,12 +113,11 @@ func (ins *inspector) inspect(packet []byte) []byte {
 	return out
 }
 
-// maxParts is the maximum number of parts of a compound: memberlist doubles the number within a byte (util.go,
-// decodeCompoundMessage).
+// maxParts is the maximum number of parts of a compound. With more parts, memberlist's count would overflow, since it
+// doubles the number in a byte (util.go, decodeCompoundMessage).
 const maxParts = 127
 
-// inspectCompound collects the parts that memberlist may read in ins.parts. isChanged reports whether some are left
-// out.
+// inspectCompound collects in ins.parts the parts that memberlist may read. isChanged is true if it leaves some out.
 func (ins *inspector) inspectCompound(body []byte) (isChanged bool, reason Reason) {
 	ins.parts = ins.parts[:0]
 	if len(body) == 0 || body[0] == 0 || body[0] > maxParts || len(body) < 1+2*int(body[0]) {
@@ -183,13 +183,13 @@ func (ins *inspector) inspectMessage(message []byte) Reason {
 	return ins.checkState(message, &values)
 }
 
-// checkState checks what depends on more than the message: pings sent, the rate of indirect pings, known members, and
-// candidates.
+// checkState makes the checks that need more than the message itself: the pings that were sent, the rate of indirect
+// pings, the known members, and the candidates.
 func (ins *inspector) checkState(message []byte, values *[maxFields]value) Reason {
 	switch message[0] {
 	case msgAck, msgNack:
 		number := uint32(values[fieldSeqNo].number)
-		isOurs := message[0] == msgAck && ins.candidates.answer(number)
+		isOurs := message[0] == msgAck && ins.candidates.acceptAck(number)
 		if !ins.pings.isExpected(number) {
 			if isOurs {
 				return held
@@ -210,7 +210,8 @@ func (ins *inspector) checkState(message []byte, values *[maxFields]value) Reaso
 	return none
 }
 
-// recordSentPing records the sequence number of a ping in a packet that is sent. The ping is the packet's first message.
+// recordSentPing records the sequence number if a packet that is sent contains a ping. The ping is the packet's first
+// message.
 func (ins *inspector) recordSentPing(packet []byte) {
 	body, _, reason := ins.unwrap(packet, ins.verifyOut)
 	if reason == none && body[0] == msgCompound && len(body) > 4 && len(body) > 2+2*int(body[1]) {

@@ -8,6 +8,7 @@ import (
 	"github.com/hashicorp/memberlist"
 )
 
+// startProving starts the goroutine that runs prove.
 func (t *Transport) startProving() {
 	t.proving.Add(1)
 	go t.prove()
@@ -18,55 +19,55 @@ func (t *Transport) startProving() {
 func (t *Transport) prove() {
 	defer t.proving.Done()
 	for {
-		pings, answered, next := t.candidates.due(time.Now())
+		pings, answered, wait := t.candidates.takeDue(time.Now())
 		for _, c := range pings {
 			// A packet that can't be sent is like one that is lost.
 			t.send(t.pingOf(c), memberlist.Address{Addr: c.addr.String(), Name: c.name})
 		}
 		for _, c := range answered {
-			t.pass(&memberlist.Packet{Buf: t.reportOf(c), From: c.from, Timestamp: time.Now()})
+			t.passToMemberlist(&memberlist.Packet{Buf: t.reportOf(c), From: c.reporter, Timestamp: time.Now()})
 		}
-		if next == 0 {
-			next = time.Hour
+		if wait == 0 {
+			wait = time.Hour
 		}
-		timer := time.NewTimer(next)
+		timer := time.NewTimer(wait)
 		select {
 		case <-t.closed:
 			timer.Stop()
 			return
-		case <-t.candidates.work:
+		case <-t.candidates.workReady:
 		case <-timer.C:
 		}
 		timer.Stop()
 	}
 }
 
-// pingOf returns a ping for a candidate. It names no address to which the ack is to be sent, so the ack returns to the
+// pingOf returns a ping for a candidate. The ping names no address for the ack, so the candidate sends the ack to the
 // address from which the ping arrives.
-func (c *core) pingOf(of *candidate) []byte {
+func (c *core) pingOf(candidate *candidate) []byte {
 	out := append([]byte{msgPing, 0x83}, "\xa5SeqNo"...)
-	out = appendNumber(out, uint64(of.number))
-	out = appendBytes(append(out, "\xa4Node"...), []byte(of.name))
-	out = appendBytes(append(out, "\xaaSourceNode"...), []byte(c.members.own))
-	if ciphers := c.ring.current(); len(ciphers) > 0 && c.verifyOut {
+	out = appendNumber(out, uint64(candidate.number))
+	out = appendBytes(append(out, "\xa4Node"...), []byte(candidate.name))
+	out = appendBytes(append(out, "\xaaSourceNode"...), []byte(c.members.ownName))
+	if ciphers := c.ring.currentCiphers(); len(ciphers) > 0 && c.verifyOut {
 		out = seal(ciphers[0], make([]byte, 0, sealOverhead+len(out)), out, nil)
 	}
 	return out
 }
 
-// reportOf returns the packet from which memberlist learns of a candidate that answered.
-func (c *core) reportOf(of *candidate) []byte {
-	out := of.alive
-	if of.later != nil {
-		out = encodeCompound([][]byte{of.alive, of.later})
+// reportOf returns the packet that reports a candidate to memberlist after the candidate has answered.
+func (c *core) reportOf(candidate *candidate) []byte {
+	out := candidate.alive
+	if candidate.later != nil {
+		out = encodeCompound([][]byte{candidate.alive, candidate.later})
 	}
-	if ciphers := c.ring.current(); len(ciphers) > 0 {
+	if ciphers := c.ring.currentCiphers(); len(ciphers) > 0 {
 		out = seal(ciphers[0], make([]byte, 0, sealOverhead+len(out)), out, nil)
 	}
 	return out
 }
 
-// report is what a message says about a node that is alive.
+// report has the data of a node that a message reports as alive.
 type report struct {
 	name, addr, meta, vsn []byte
 	port, incarnation     uint64
@@ -87,8 +88,8 @@ func nodeReport(v *[maxFields]value) report {
 	}
 }
 
-// alive encodes the report as an alive message.
-func (r *report) alive() []byte {
+// encodeAlive encodes the report as an alive message.
+func (r *report) encodeAlive() []byte {
 	out := append([]byte{msgAlive, 0x86}, "\xabIncarnation"...)
 	out = appendNumber(out, r.incarnation)
 	out = appendBytes(append(out, "\xa4Node"...), r.name)
@@ -98,8 +99,8 @@ func (r *report) alive() []byte {
 	return appendBytes(append(out, "\xa3Vsn"...), r.vsn)
 }
 
-// at returns the name and the address of the node, as memberlist reads them (net.go, handleAlive).
-func (c *core) at(r *report) nameAt {
+// nodeOf returns the node's name and address, as memberlist reads them (net.go, handleAlive).
+func (c *core) nodeOf(r *report) nameAt {
 	ip, _ := netip.AddrFromSlice(r.addr)
 	port := uint16(r.port)
 	if port == 0 || c.protocol < 2 {
@@ -108,7 +109,8 @@ func (c *core) at(r *report) nameAt {
 	return nameAt{string(r.name), netip.AddrPortFrom(ip.Unmap(), port)}
 }
 
-// addrOf returns the IP address and the port of a network address; neither is valid if it has none.
+// addrOf returns the IP address and the port of a network address. If the network address has none, the result is not
+// valid.
 func addrOf(a net.Addr) netip.AddrPort {
 	switch a := a.(type) {
 	case nil:
@@ -124,8 +126,8 @@ func addrOf(a net.Addr) netip.AddrPort {
 
 func unmap(a netip.AddrPort) netip.AddrPort { return netip.AddrPortFrom(a.Addr().Unmap(), a.Port()) }
 
-// checkAlive checks whether memberlist may learn that a node is alive: it has to have the right versions, and its address
-// has to be proven. If it isn't, the node becomes a candidate, and checkAlive returns held.
+// checkAlive checks whether memberlist may learn that a node is alive. The node has to have the right versions, and a
+// proven address. If its address isn't proven, the node becomes a candidate, and checkAlive returns held.
 func (ins *inspector) checkAlive(r report) Reason {
 	node, reason := ins.checkReport(&r)
 	if reason != held {
@@ -135,24 +137,24 @@ func (ins *inspector) checkAlive(r report) Reason {
 	if ins.members.hasAddress(addrOf(ins.from)) {
 		kind = fromMember
 	}
-	_, reason = ins.candidates.add(node, kind, netip.Addr{}, ins.from, r.alive(), nil)
+	_, reason = ins.candidates.add(node, kind, netip.Addr{}, ins.from, r.encodeAlive(), nil)
 	return reason
 }
 
-// checkReport returns none if memberlist may have a report, held if the node has to answer a ping first, or why the report
-// is refused.
+// checkReport returns none if memberlist may receive a report, held if the node has to answer a ping first, and
+// otherwise the reason why the guard refuses the report.
 func (c *core) checkReport(r *report) (nameAt, Reason) {
 	if !c.bounds.acceptsVersions(r.vsn) {
 		return nameAt{}, Versions
 	}
-	node := c.at(r)
+	node := c.nodeOf(r)
 	if c.members.isProven(node) {
 		return node, none
 	}
-	if !c.allows(node.addr.Addr()) {
+	if !c.isIPAllowed(node.addr.Addr()) {
 		return node, Address
 	}
-	if reason := c.members.mayAdmit(node); reason != none {
+	if reason := c.members.refusalAfterProof(node); reason != none {
 		return node, reason
 	}
 	if c.bounds.AdmitUnproven {

@@ -5,13 +5,15 @@ import (
 	"sync/atomic"
 )
 
-// Reason is why something was dropped. The set is fixed, so nothing that the network sends can add a reason.
+// Reason is the reason why something was dropped. The set of reasons is fixed, so nothing that the network sends can
+// add one.
 type Reason uint8
 
-// Why a packet, a part of one, a stream or an entry of a push/pull was dropped.
+// These are the reasons for which the guard drops a packet, a part of a packet, a stream or an entry of a push/pull.
 const (
 	none Reason = iota
-	// TooLong: more bytes than the bound for a packet or a stream. Inflated: more than that after decompression.
+	// TooLong: a packet or a stream with more bytes than its bound. Inflated: one that exceeds the bound after
+	// decompression.
 	TooLong
 	Inflated
 	// Empty: no bytes, although memberlist would read the first one.
@@ -24,14 +26,14 @@ const (
 	Plain
 	Sealed
 	OldSeal
-	// Checksum: the CRC doesn't match. Compression: it can't be decompressed.
+	// Checksum: the CRC doesn't match. Compression: the content can't be decompressed.
 	Checksum
 	Compression
 	// Nested: a wrapper that is not allowed there. Kind: a message type that is not allowed here.
 	Nested
 	Kind
-	// Parts: a compound with no parts or more than 127, or one that is cut off. Of one that is cut off, the parts
-	// before the cut are kept.
+	// Parts: a compound with no parts or more than 127, or one that is cut off. The guard keeps the parts before the
+	// cut.
 	Parts
 	// Malformed: not MessagePack as memberlist writes it, which is a map with each field at most once and of its type.
 	// Trailing: bytes after the end.
@@ -46,7 +48,7 @@ const (
 	Range
 	Length
 	Payload
-	// Unasked: an ack or nack to a ping that this node did not send. Rate: too many indirect pings in a second.
+	// Unasked: an ack or nack for a ping that this node did not send. Rate: too many indirect pings in a second.
 	Unasked
 	Rate
 	// Full: a new node, although the maximum number of nodes is known. Unproven: a new node whose address didn't answer a
@@ -58,21 +60,21 @@ const (
 	// time for its bytes or its push/pull.
 	Crowded
 
-	reasons
+	reasonCount
 
-	// held: nothing was dropped. The guard keeps it until a candidate answers, or it was the answer to a ping of the
-	// guard's own.
+	// held: nothing was dropped. Either the guard keeps the message until a candidate answers, or the message was the
+	// answer to one of the guard's own pings.
 	held
 )
 
-var reasonNames = [reasons]string{
+var reasonNames = [reasonCount]string{
 	"none", "too long", "inflated", "empty", "short", "plain", "sealed", "old seal", "checksum", "compression", "nested", "kind", "parts",
 	"malformed", "trailing", "name", "address", "meta", "versions", "range", "length", "payload", "unasked", "rate", "full", "unproven",
 	"names", "crowded",
 }
 
 func (r Reason) String() string {
-	if r >= reasons {
+	if r >= reasonCount {
 		return fmt.Sprintf("reason %d", uint8(r))
 	}
 	return reasonNames[r]
@@ -80,8 +82,8 @@ func (r Reason) String() string {
 
 // Reasons returns all reasons.
 func Reasons() []Reason {
-	all := make([]Reason, 0, reasons-1)
-	for reason := none + 1; reason < reasons; reason++ {
+	all := make([]Reason, 0, reasonCount-1)
+	for reason := none + 1; reason < reasonCount; reason++ {
 		all = append(all, reason)
 	}
 	return all
@@ -95,7 +97,7 @@ func (r Reason) or(next Reason) Reason {
 	return next
 }
 
-// refusalError is the error that memberlist reads from a refused stream.
+// refusalError is the error that a refused stream returns to memberlist.
 type refusalError Reason
 
 func (r refusalError) Error() string {
@@ -111,11 +113,12 @@ func (r refusalError) Error() string {
 	return "guard: " + text
 }
 
-// drops counts what was dropped, by reason.
-type drops [reasons]atomic.Uint64
+// drops has the number of drops for each reason.
+type drops [reasonCount]atomic.Uint64
 
+// add counts a drop. Reasons that drop nothing, such as none and held, are not counted.
 func (d *drops) add(reason Reason) {
-	if reason != none && reason < reasons {
+	if reason != none && reason < reasonCount {
 		d[reason].Add(1)
 	}
 }
@@ -123,7 +126,7 @@ func (d *drops) add(reason Reason) {
 // counts returns the counts that aren't 0.
 func (d *drops) counts() map[Reason]uint64 {
 	nonzero := map[Reason]uint64{}
-	for reason := none + 1; reason < reasons; reason++ {
+	for reason := none + 1; reason < reasonCount; reason++ {
 		if count := d[reason].Load(); count > 0 {
 			nonzero[reason] = count
 		}

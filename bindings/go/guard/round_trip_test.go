@@ -12,11 +12,11 @@ import (
 // oneWay is how long a packet or a write takes in a slow network.
 const oneWay = 25 * time.Millisecond
 
-// slowTransport is a transport in memory whose packets and streams take some time. Its streams know their addresses.
+// slowTransport is a transport in memory whose packets and streams arrive with a delay. Its streams have addresses.
 type slowTransport struct{ *memoryTransport }
 
 func (s slowTransport) WriteTo(b []byte, addr string) (time.Time, error) {
-	if to := s.net.at(addr); to != nil {
+	if to := s.net.transportAt(addr); to != nil {
 		b = append([]byte(nil), b...)
 		time.AfterFunc(oneWay, func() {
 			select {
@@ -30,7 +30,7 @@ func (s slowTransport) WriteTo(b []byte, addr string) (time.Time, error) {
 
 func (s slowTransport) DialTimeout(addr string, timeout time.Duration) (net.Conn, error) {
 	time.Sleep(2 * oneWay)
-	to := s.net.at(addr)
+	to := s.net.transportAt(addr)
 	here, there := net.Pipe()
 	select {
 	case to.streams <- slowConn{there, s.addr()}:
@@ -53,8 +53,8 @@ func (s slowConn) Write(b []byte) (int, error) {
 	return s.Conn.Write(b)
 }
 
-// joinTime returns how long the last of six nodes takes to join the others, or an hour if it doesn't know all of them then,
-// because the machine was too busy.
+// joinTime returns how long the last of six nodes takes to join the others. It returns an hour if the node doesn't know
+// all of them after the join, because the machine was too busy.
 func joinTime(t *testing.T, settings Settings) time.Duration {
 	network := new(memoryNet)
 	var lists []*memberlist.Memberlist
@@ -91,8 +91,8 @@ func joinTime(t *testing.T, settings Settings) time.Duration {
 	return took
 }
 
-// A join takes one round trip longer than without proofs, however many members there are. (The best of some joins counts, since
-// the machine may be busy.)
+// If new nodes have to prove their addresses, a join takes one round trip longer, however many members there are. (The
+// fastest of several joins counts, since the machine may be busy.)
 func TestJoinTakesOneRoundTripMore(t *testing.T) {
 	without, with := time.Hour, time.Hour
 	for tries := 0; tries < 10; tries++ {

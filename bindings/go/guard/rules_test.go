@@ -13,12 +13,12 @@ import (
 	"github.com/hashicorp/memberlist"
 )
 
-// A socket that returns errors, for example because the process has no free file descriptor, is read again.
+// If a socket returns an error, for example because the process has no free file descriptor, the guard reads it again.
 func TestErrorsOfASocket(t *testing.T) {
 	g := &Transport{log: log.New(io.Discard, "", 0), closed: make(chan struct{})}
 	steps := 0
 	g.running.Add(1)
-	g.run("a step", func() error {
+	g.repeatUntilClosed("a step", func() error {
 		if steps++; steps == 5 {
 			close(g.closed)
 		}
@@ -32,20 +32,22 @@ func TestErrorsOfASocket(t *testing.T) {
 	}
 }
 
-// A rate allows as many calls in each second.
+// A rate allows the same number of calls in each second.
 func TestRateBeginsAnew(t *testing.T) {
 	// (a second that begins in an hour isn't over, however busy the machine is)
-	r := rate{began: time.Now().Add(time.Hour)}
-	if !r.allows(2) || !r.allows(2) || r.allows(2) || r.allows(2) {
-		t.Error("two calls are not allowed, or more than two are")
+	r := rate{secondStart: time.Now().Add(time.Hour)}
+	for call := 1; call <= 4; call++ {
+		if r.allows(2) != (call <= 2) {
+			t.Errorf("two calls are allowed, and the answer to call %d is wrong", call)
+		}
 	}
-	r.began = time.Now().Add(-time.Second)
+	r.secondStart = time.Now().Add(-time.Second)
 	if !r.allows(2) {
 		t.Error("no call is allowed in the next second")
 	}
 }
 
-// A push/pull from which entries are cut out stays a join, or stays none.
+// If the guard cuts entries out of a push/pull, a join is still a join, and another push/pull does not become one.
 func TestCutPushPullStaysAJoin(t *testing.T) {
 	bad, good := node("bad", map[string]any{"Vsn": []byte{1}}), node("good", nil)
 	whole, want := pushPull([]map[string]any{bad, good}, 5), pushPull([]map[string]any{good}, 5)
@@ -62,7 +64,7 @@ func TestCutPushPullStaysAJoin(t *testing.T) {
 	}
 }
 
-// A push/pull keeps its place for its time. One that waits for a place gives up at its deadline.
+// A push/pull keeps its place for pushPullTime. If another one waits for a place, it stops waiting at its deadline.
 func TestPushPullKeepsItsPlace(t *testing.T) {
 	for tries := 0; tries < 20; tries++ {
 		g := testGuard(t, false, Settings{PushPulls: 1})
@@ -89,7 +91,7 @@ func TestPushPullKeepsItsPlace(t *testing.T) {
 		if took := time.Since(began); took < pushPullTime {
 			t.Fatalf("it ended with %v after %v, and the other one was evicted: %v", reason, took, wasEvicted)
 		}
-		// (a busy machine took the other one's time)
+		// (on a busy machine, the other push/pull may have used up its time)
 	}
 	t.Error("a push/pull waits beyond its deadline, or the machine is too busy")
 }
@@ -130,7 +132,7 @@ func TestOldestIncompleteStreamIsClosed(t *testing.T) {
 	}
 }
 
-// The version that a node speaks has to be within the range, too.
+// The version that a node speaks also has to be within the range.
 func TestRangesOfVersions(t *testing.T) {
 	r := VersionRange{2, 4}
 	for versions, want := range map[[3]uint8]bool{
@@ -143,7 +145,7 @@ func TestRangesOfVersions(t *testing.T) {
 	}
 }
 
-// After a packet that could not be read, each ack is expected for a minute.
+// After the guard has sent a packet that it could not read, it accepts every ack for a minute.
 func TestAcksAfterAnUnreadablePacket(t *testing.T) {
 	for age, want := range map[time.Duration]bool{0: true, unreadableTime / 2: true, unreadableTime: false, time.Hour: false} {
 		var p pings
@@ -170,14 +172,14 @@ func TestForgottenNodesHaveNoPlace(t *testing.T) {
 	}
 }
 
-// eventRecorder is an EventDelegate that keeps what it hears.
+// eventRecorder is an EventDelegate that records the events that it receives.
 type eventRecorder struct{ heard []string }
 
 func (e *eventRecorder) NotifyJoin(n *memberlist.Node)   { e.heard = append(e.heard, "join "+n.Name) }
 func (e *eventRecorder) NotifyLeave(n *memberlist.Node)  { e.heard = append(e.heard, "leave "+n.Name) }
 func (e *eventRecorder) NotifyUpdate(n *memberlist.Node) { e.heard = append(e.heard, "update "+n.Name) }
 
-// The program's own EventDelegate hears of all events.
+// The program's own EventDelegate receives all events.
 func TestOwnEventDelegate(t *testing.T) {
 	own, c := &eventRecorder{}, testConfig("child", false)
 	c.Events = own
@@ -195,7 +197,7 @@ func TestOwnEventDelegate(t *testing.T) {
 	}
 }
 
-// longConn is a connection from which many bytes can be read, and counts them.
+// longConn is a connection from which many bytes can be read. It counts the bytes that were read.
 type longConn struct {
 	net.Conn
 	read int
@@ -209,7 +211,7 @@ func (l *longConn) Read(p []byte) (int, error) {
 	return len(p), nil
 }
 
-// Of a connection that is one packet, only as many bytes are read as a packet may have, and one more.
+// If a connection's content is one packet, the guard reads at most one byte more than a packet may have.
 func TestIngestedPacketIsBounded(t *testing.T) {
 	g, conn := testGuard(t, false, Settings{}), &longConn{}
 	if err := g.IngestPacket(conn, nil, time.Now(), false); err != nil {

@@ -29,14 +29,14 @@ func isWrapper(msgType byte) bool {
 	return msgType == msgCompound || msgType == msgCompress || msgType == msgChecksum || msgType == msgEncrypt
 }
 
-// fieldKind is what a field's value may be.
+// fieldKind is the kind of value that a field may have.
 type fieldKind uint8
 
 const (
-	kindNumber  fieldKind = iota // from min to max
+	kindNumber  fieldKind = iota // a number from min to max
 	kindText                     // min to max bytes
-	kindBytes                    // min to max bytes; nil counts as none
-	kindAddress                  // 4 or 16 bytes; if min is 0, none too
+	kindBytes                    // min to max bytes; nil counts as no bytes
+	kindAddress                  // 4 or 16 bytes, or also no bytes if min is 0
 	kindFlag
 )
 
@@ -75,20 +75,21 @@ func (s schema) indexOf(name []byte) int {
 	return -1
 }
 
-// schemas hold the fields of each message type, and those of an entry of a push/pull. For streams this is the part
-// before the entries or the bytes. A ping's names may be empty, since memberlist then skips its check of the name.
+// schemas has the fields of each message type, and those of an entry of a push/pull. For a message of a stream, these
+// are the fields before the entries or the bytes. The names in a ping may be empty, since memberlist then skips its
+// check of the name.
 type schemas struct {
 	byType [msgErr + 1]schema
 	node   schema
 }
 
-// Indexes of the fields that are checked further than their own bounds.
+// These are the indexes of the fields that need more checks than those of their bounds.
 const (
 	fieldSeqNo                                        = 0 // sequence number of a ping, an indirect ping, an ack and a nack
 	fieldAliveIncarnation, fieldAliveNode             = 0, 1
 	fieldAliveAddr, fieldAlivePort                    = 2, 3
 	fieldAliveMeta, fieldAliveVsn                     = 4, 5
-	fieldSuspectNode                                  = 1 // also of msgDead
+	fieldSuspectNode                                  = 1 // the same index in msgDead
 	fieldNodeName, fieldNodeAddr, fieldNodePort       = 0, 1, 2
 	fieldNodeMeta, fieldNodeIncarnation               = 3, 4
 	fieldNodeVsn, fieldNodeState                      = 5, 6
@@ -97,36 +98,36 @@ const (
 )
 
 func newSchemas(s *Settings) *schemas {
-	number := func(name string, max uint64, reason Reason) field { return field{name, kindNumber, 0, max, reason} }
-	raw := func(name string, min, max int, reason Reason) field {
+	numberField := func(name string, max uint64, reason Reason) field { return field{name, kindNumber, 0, max, reason} }
+	bytesField := func(name string, min, max int, reason Reason) field {
 		return field{name, kindBytes, uint64(min), uint64(max), reason}
 	}
-	text := func(name string, min uint64) field { return field{name, kindText, min, maxName, Name} }
-	address := func(name string, min uint64) field { return field{name, kindAddress, min, 16, Address} }
-	boolean := func(name string) field { return field{name, kindFlag, 0, 0, Malformed} }
-	sequence, incarnation, port := number("SeqNo", maxUint32, Range), number("Incarnation", maxUint32, Range), number("Port", maxUint16, Range)
-	addr, meta, vsn := address("Addr", 4), raw("Meta", 0, maxMeta, Meta), raw("Vsn", versionBytes, versionBytes, Versions)
-	source := schema{address("SourceAddr", 0), number("SourcePort", maxUint16, Range), text("SourceNode", 0)}
-	suspect := schema{incarnation, text("Node", 1), text("From", 1)}
+	textField := func(name string, min uint64) field { return field{name, kindText, min, maxName, Name} }
+	addressField := func(name string, min uint64) field { return field{name, kindAddress, min, 16, Address} }
+	flagField := func(name string) field { return field{name, kindFlag, 0, 0, Malformed} }
+	sequence, incarnation, port := numberField("SeqNo", maxUint32, Range), numberField("Incarnation", maxUint32, Range), numberField("Port", maxUint16, Range)
+	addr, meta, vsn := addressField("Addr", 4), bytesField("Meta", 0, maxMeta, Meta), bytesField("Vsn", versionBytes, versionBytes, Versions)
+	source := schema{addressField("SourceAddr", 0), numberField("SourcePort", maxUint16, Range), textField("SourceNode", 0)}
+	suspect := schema{incarnation, textField("Node", 1), textField("From", 1)}
 	return &schemas{
 		byType: [...]schema{
-			msgPing:         append(schema{sequence, text("Node", 0)}, source...),
-			msgIndirectPing: append(schema{sequence, address("Target", 4), port, text("Node", 0), boolean("Nack")}, source...),
-			msgAck:          {sequence, raw("Payload", 0, s.AckBytes, Payload)},
+			msgPing:         append(schema{sequence, textField("Node", 0)}, source...),
+			msgIndirectPing: append(schema{sequence, addressField("Target", 4), port, textField("Node", 0), flagField("Nack")}, source...),
+			msgAck:          {sequence, bytesField("Payload", 0, s.AckBytes, Payload)},
 			msgNack:         {sequence},
 			msgSuspect:      suspect,
 			msgDead:         suspect,
-			msgAlive:        {incarnation, text("Node", 1), addr, port, meta, vsn},
-			msgCompress:     {number("Algo", 0, Compression), raw("Buf", 1, s.StreamBytes, Compression)},
-			msgPushPull:     {number("Nodes", uint64(s.Nodes), Length), number("UserStateLen", uint64(s.StreamBytes), Length), boolean("Join")},
-			msgUser:         {number("UserMsgLen", uint64(s.UserBytes), Length)},
+			msgAlive:        {incarnation, textField("Node", 1), addr, port, meta, vsn},
+			msgCompress:     {numberField("Algo", 0, Compression), bytesField("Buf", 1, s.StreamBytes, Compression)},
+			msgPushPull:     {numberField("Nodes", uint64(s.Nodes), Length), numberField("UserStateLen", uint64(s.StreamBytes), Length), flagField("Join")},
+			msgUser:         {numberField("UserMsgLen", uint64(s.UserBytes), Length)},
 			msgErr:          {{"Error", kindText, 0, maxErrorText, Length}},
 		},
-		node: schema{text("Name", 1), addr, port, meta, incarnation, vsn, number("State", nodeStates-1, Range)},
+		node: schema{textField("Name", 1), addr, port, meta, incarnation, vsn, numberField("State", nodeStates-1, Range)},
 	}
 }
 
-// check returns why a value isn't allowed for the field, or none.
+// check returns the reason why a value isn't allowed for the field, or none if it is allowed.
 func (f *field) check(v value) Reason {
 	isBytes := v.kind == msgpack.Text || v.kind == msgpack.Bytes || v.kind == msgpack.Nil
 	n := uint64(len(v.bytes))
@@ -161,8 +162,8 @@ func (f *field) check(v value) Reason {
 	return none
 }
 
-// isUsableAddress reports whether a node may have this address. This node sends packets to it, so it has to be the
-// address of a single host.
+// isUsableAddress reports whether a node may have this address. This node sends packets to the address, so it has to be
+// that of a single host.
 func isUsableAddress(b []byte, min uint64) bool {
 	if len(b) != net.IPv4len && len(b) != net.IPv6len {
 		return len(b) == 0 && min == 0

@@ -14,9 +14,9 @@ import (
 	"github.com/hashicorp/memberlist"
 )
 
-// memberlist's encryption (security.go): a version byte, a nonce, and the output of AES-GCM with its tag. Version 0
-// adds padding, and the version byte isn't authenticated: if somebody changes it to 0, memberlist removes padding that
-// isn't there, which crashes the program.
+// An encrypted message of memberlist has a version byte, a nonce, and the output of AES-GCM with its tag (security.go).
+// Version 0 adds padding, and the version byte isn't authenticated. If somebody changes it to 0, memberlist removes
+// padding that isn't there, which crashes the program.
 const (
 	sealVersion  = 1
 	nonceSize    = 12
@@ -26,18 +26,18 @@ const (
 	streamHeader = 5
 )
 
-// ring holds the ciphers of memberlist's keys. The first one encrypts.
+// ring has the ciphers of memberlist's keys. memberlist encrypts with the first one.
 type ring struct {
 	source *memberlist.Keyring
 
 	mu sync.Mutex
-	// keys are the keys of the ciphers. memberlist makes a new slice for each change.
+	// keys are the keys of the ciphers. memberlist makes a new slice for each change of the keys.
 	keys    [][]byte
 	ciphers []cipher.AEAD
 }
 
-// current returns the ciphers of the current keys, or nil if gossip isn't encrypted.
-func (r *ring) current() []cipher.AEAD {
+// currentCiphers returns the ciphers of the current keys, or nil if gossip isn't encrypted.
+func (r *ring) currentCiphers() []cipher.AEAD {
 	if r.source == nil {
 		return nil
 	}
@@ -58,13 +58,13 @@ func (r *ring) current() []cipher.AEAD {
 	return r.ciphers
 }
 
-// open decrypts sealed into room. The two must not share memory.
-func open(ciphers []cipher.AEAD, sealed, signed, room []byte) ([]byte, Reason) {
+// open decrypts sealed into buffer. The two must not share memory.
+func open(ciphers []cipher.AEAD, sealed, signed, buffer []byte) ([]byte, Reason) {
 	if len(sealed) < sealOverhead || sealed[0] > sealVersion {
 		return nil, Sealed
 	}
 	for _, aead := range ciphers {
-		plain, err := aead.Open(room[:0], sealed[1:1+nonceSize], sealed[1+nonceSize:], signed)
+		plain, err := aead.Open(buffer[:0], sealed[1:1+nonceSize], sealed[1+nonceSize:], signed)
 		switch {
 		case err == nil && sealed[0] != sealVersion:
 			return nil, OldSeal
@@ -95,29 +95,29 @@ func sealStream(aead cipher.AEAD, plain []byte) []byte {
 	return seal(aead, out, plain, out[:streamHeader])
 }
 
-// inflater decompresses. It is pooled, since it takes 20 KiB.
+// inflater decompresses content. The guard pools inflaters, since each one needs 20 KiB.
 type inflater struct {
-	lzw  *lzw.Reader
-	from bytes.Reader
+	lzw    *lzw.Reader
+	source bytes.Reader
 }
 
 var inflaters = sync.Pool{New: func() any { return &inflater{lzw: lzw.NewReader(nil, lzw.LSB, 8).(*lzw.Reader)} }}
 
-// inflate decompresses into room, to at most max bytes. If room is too small, hold decides whether it may grow by that
-// many bytes.
-func inflate(in, room []byte, max int, hold func(growth int) Reason) ([]byte, Reason) {
+// inflate decompresses packed into buffer, to at most max bytes. If buffer is too small, inflate calls reserve, which
+// decides whether the buffer may grow by growth bytes.
+func inflate(packed, buffer []byte, max int, reserve func(growth int) Reason) ([]byte, Reason) {
 	inf := inflaters.Get().(*inflater)
 	defer func() {
-		inf.from.Reset(nil)
+		inf.source.Reset(nil)
 		inflaters.Put(inf)
 	}()
-	inf.from.Reset(in)
-	inf.lzw.Reset(&inf.from, lzw.LSB, 8)
-	out := room[:0]
+	inf.source.Reset(packed)
+	inf.lzw.Reset(&inf.source, lzw.LSB, 8)
+	out := buffer[:0]
 	for {
 		if len(out) == cap(out) {
 			growth := min(cap(out)+512, max+1-len(out))
-			if reason := hold(growth); reason != none {
+			if reason := reserve(growth); reason != none {
 				return nil, reason
 			}
 			out = append(make([]byte, 0, len(out)+growth), out...)

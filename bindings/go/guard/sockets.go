@@ -11,7 +11,7 @@ import (
 	"github.com/hashicorp/memberlist"
 )
 
-// sockets carry packets over UDP and streams over TCP, at the same port.
+// sockets sends and receives packets over UDP and streams over TCP, on the same port.
 type sockets struct {
 	host      string
 	tcp       *net.TCPListener
@@ -19,11 +19,11 @@ type sockets struct {
 	startOnce sync.Once
 }
 
-// maxReceiveBuffer is the size in bytes of the socket's receive buffer that memberlist requests too. If the system
-// refuses it, half of it is tried, and so on.
+// maxReceiveBuffer is the size in bytes of the receive buffer that the guard requests for its socket. memberlist
+// requests the same size. If the system refuses it, the guard tries half of it, and so on.
 const maxReceiveBuffer = 2 << 20
 
-// listen opens both sockets at the same port; if port is 0, at any free one.
+// listen opens both sockets on the same port. If port is 0, it chooses a free one.
 func (s *sockets) listen(port int) (err error) {
 	ip := net.ParseIP(s.host)
 	if s.tcp, err = net.ListenTCP("tcp", &net.TCPAddr{IP: ip, Port: port}); err != nil {
@@ -50,19 +50,20 @@ func (s *sockets) close() error {
 	return nil
 }
 
+// receive starts the goroutines that read both sockets. The other methods without a comment implement carrier too.
 func (s *sockets) receive(t *Transport) {
 	s.startOnce.Do(func() {
 		t.startProving()
 		t.running.Add(2)
 		ins, buf := newInspector(t.core), make([]byte, t.bounds.PacketBytes+1)
-		go t.run("reading a packet", func() error {
+		go t.repeatUntilClosed("reading a packet", func() error {
 			n, from, err := s.udp.ReadFromUDP(buf)
 			if err == nil {
 				t.deliver(ins, buf[:n], from, time.Now())
 			}
 			return err
 		})
-		go t.run("accepting a stream", func() error {
+		go t.repeatUntilClosed("accepting a stream", func() error {
 			conn, err := s.tcp.AcceptTCP()
 			if err == nil {
 				t.deliverStream(conn)
@@ -72,15 +73,15 @@ func (s *sockets) receive(t *Transport) {
 	})
 }
 
-// After an error of a socket, for example because the process has no free file descriptor, run waits minWait, and twice
-// as long after each further error, up to maxWait.
+// After an error of a socket, for example because the process has no free file descriptor, repeatUntilClosed waits for minWait. After
+// each further error it waits twice as long, up to maxWait.
 const (
 	minWait = 5 * time.Millisecond
 	maxWait = time.Second
 )
 
-// run repeats step until the transport is shut down. action describes the step in the log.
-func (t *Transport) run(action string, step func() error) {
+// repeatUntilClosed repeats step until the transport is shut down. action describes the step in the log.
+func (t *Transport) repeatUntilClosed(action string, step func() error) {
 	defer t.running.Done()
 	for wait := minWait; ; {
 		err := step()
@@ -111,8 +112,8 @@ func (s *sockets) send(b []byte, to memberlist.Address) (time.Time, error) {
 	return time.Now(), err
 }
 
-// dial opens a stream from the address at which the sockets listen, as packets are sent from it too. By that address, the
-// other node recognizes this one. If that is impossible, the system selects an address.
+// dial opens a stream from the address on which the sockets listen. Packets are sent from this address too, and the
+// other node recognizes this node by it. If that is impossible, the system selects an address.
 func (s *sockets) dial(to memberlist.Address, timeout time.Duration) (net.Conn, error) {
 	began, ip := time.Now(), s.tcp.Addr().(*net.TCPAddr).IP
 	if ip.IsUnspecified() {
@@ -143,7 +144,8 @@ func (s *sockets) finalAdvertiseAddr(given string, port int) (net.IP, int, error
 	return ip, s.port(), err
 }
 
-// privateAddress returns the private address from which the host reaches others, or else its first private address.
+// privateAddress returns the private address from which the host reaches others. If there is none, it returns the
+// host's first private address.
 func privateAddress() (net.IP, error) {
 	// This sends nothing. The address is reserved for documentation.
 	if conn, err := net.Dial("udp4", "192.0.2.1:9"); err == nil {

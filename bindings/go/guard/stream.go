@@ -14,26 +14,27 @@ import (
 type stream struct {
 	net.Conn
 	*core
-	// isDialed is true if this node opened the connection, so what it reads is an answer. peer is the other end's address,
-	// which isn't valid if the transport has none.
+	// isDialed is true if this node opened the connection, so that the message is an answer. peer is the address of the
+	// other end, or an invalid address if the transport has none.
 	isDialed bool
 	peer     netip.AddrPort
-	// refused is why nobody in a join is admitted, or none.
-	refused Reason
+	// joinRefusal is the reason why no node of a join is admitted, or none.
+	joinRefusal Reason
 	// done is closed when the stream ends.
 	done chan struct{}
-	// deadline is the one that memberlist set, in nanoseconds since 1970.
+	// deadline is the deadline that memberlist set, in nanoseconds since 1970.
 	deadline atomic.Int64
 
-	// in holds the bytes that were received, readable the bytes that memberlist may still read, endErr the error that it
-	// reads after them, and readErr the network's error.
-	in              reader
+	// input has the bytes that were received, and readable those that memberlist may still read. endErr is the error that
+	// Read returns after these bytes, and readErr is the network's error.
+	input           reader
 	isInspected     bool
 	readable        []byte
 	endErr, readErr error
 
-	// streams.mu guards these fields. isComplete: the whole message is here. isClosed: the stream was evicted or
-	// closed. load: what it holds. pushPullSince: when memberlist began to answer its push/pull.
+	// streams.mu guards these fields. isComplete: the whole message has arrived. isClosed: the stream was evicted or
+	// closed. load: the memory and places that the stream holds. pushPullSince: when memberlist began to answer the
+	// stream's push/pull.
 	isComplete, isClosed bool
 	load                 load
 	pushPullSince        time.Time
@@ -46,13 +47,15 @@ const (
 	maxStreamWait   = 10 * time.Second
 )
 
+// newStream returns a stream that inspects the connection's message when it is first read.
 func (c *core) newStream(conn net.Conn, isDialed bool) *stream {
 	s := &stream{Conn: conn, core: c, isDialed: isDialed, done: make(chan struct{})}
-	s.in.More = s.more
+	s.input.More = s.readMore
 	s.storeDeadline(time.Time{})
 	return s
 }
 
+// storeDeadline stores when the stream stops waiting for room. The zero time means maxStreamWait from now.
 func (s *stream) storeDeadline(at time.Time) {
 	if at.IsZero() {
 		at = time.Now().Add(maxStreamWait)
@@ -78,8 +81,9 @@ func (s *stream) Close() error {
 	return s.Conn.Close()
 }
 
-// Read implements net.Conn. It returns an error if the stream is refused. Of the streams that others open, only one in a
-// second returns an error, and the rest end with io.EOF, so that refusals don't fill memberlist's log.
+// Read implements net.Conn. It returns an error if the stream is refused. If another node opened the stream, only one
+// refused stream per second returns its error and the rest end with io.EOF, so that refusals don't fill memberlist's
+// log.
 func (s *stream) Read(p []byte) (int, error) {
 	if !s.isInspected {
 		s.isInspected, s.endErr = true, io.EOF
@@ -89,7 +93,7 @@ func (s *stream) Read(p []byte) (int, error) {
 		} else {
 			s.refuse(reason)
 		}
-		s.in.Data = nil
+		s.input.Data = nil
 	}
 	if len(s.readable) == 0 {
 		return 0, s.endErr
@@ -107,12 +111,12 @@ func (s *stream) refuse(reason Reason) {
 	default:
 	}
 	// If no byte was received, nothing was dropped. The entries of a refused join are counted already.
-	if (reason != Short || len(s.in.Data) > 0) && s.refused == none {
+	if (reason != Short || len(s.input.Data) > 0) && s.joinRefusal == none {
 		s.drops.add(reason)
 	}
 	switch {
-	case s.refused != none && !s.isDialed:
-		s.answerRefusal(reason)
+	case s.joinRefusal != none && !s.isDialed:
+		s.sendRefusal(reason)
 	case reason == Short && s.readErr != io.EOF:
 		s.endErr = s.readErr
 	case reason != Short && (s.isDialed || s.loggedRefusals.allows(1)):
@@ -120,26 +124,26 @@ func (s *stream) refuse(reason Reason) {
 	}
 }
 
-// more reads at least count bytes from the network. The buffer at most doubles with each step, whatever length the
-// message claims.
-func (s *stream) more(count int) error {
+// readMore reads at least count bytes from the network. With each step, the buffer at most doubles its size, whatever
+// length the message claims.
+func (s *stream) readMore(count int) error {
 	for count > 0 {
-		have := len(s.in.Data)
-		if have+count > s.bounds.StreamBytes {
+		received := len(s.input.Data)
+		if received+count > s.bounds.StreamBytes {
 			return refusalError(TooLong)
 		}
-		if have == cap(s.in.Data) {
-			size := min(2*have+minStreamBuffer, s.bounds.StreamBytes)
+		if received == cap(s.input.Data) {
+			size := min(2*received+minStreamBuffer, s.bounds.StreamBytes)
 			if count > minStreamBuffer {
-				size = min(size, have+count)
+				size = min(size, received+count)
 			}
-			if reason := s.streams.reserve(s, size-have); reason != none {
+			if reason := s.streams.reserve(s, size-received); reason != none {
 				return refusalError(reason)
 			}
-			s.in.Data = append(make([]byte, 0, size), s.in.Data...)
+			s.input.Data = append(make([]byte, 0, size), s.input.Data...)
 		}
-		n, err := s.Conn.Read(s.in.Data[have:cap(s.in.Data)])
-		s.in.Data = s.in.Data[:have+n]
+		n, err := s.Conn.Read(s.input.Data[received:cap(s.input.Data)])
+		s.input.Data = s.input.Data[:received+n]
 		count -= n
 		if err != nil && count > 0 {
 			s.readErr = err
@@ -149,13 +153,13 @@ func (s *stream) more(count int) error {
 	return nil
 }
 
-// inspect reads the message, and returns what memberlist may read (net.go, readStream).
+// inspect reads the message, and returns the bytes that memberlist may read (net.go, readStream).
 func (s *stream) inspect() ([]byte, Reason) {
-	msgType, ciphers := byte(s.in.Uint(1)), s.ring.current()
+	msgType, ciphers := byte(s.input.Uint(1)), s.ring.currentCiphers()
 	var changed []byte
 	var isPushPull bool
 	switch {
-	case s.in.Err != nil:
+	case s.input.Err != nil:
 	case msgType == msgEncrypt && len(ciphers) == 0:
 		return nil, Sealed
 	case msgType == msgEncrypt:
@@ -163,17 +167,17 @@ func (s *stream) inspect() ([]byte, Reason) {
 	case len(ciphers) > 0 && s.verifyIn:
 		return nil, Plain
 	default:
-		s.in.At = 0
-		changed, isPushPull = s.inspectMessage(&s.in, true)
+		s.input.At = 0
+		changed, isPushPull = s.inspectMessage(&s.input, true)
 	}
-	if s.in.Err != nil {
-		return nil, s.in.failure()
+	if s.input.Err != nil {
+		return nil, s.input.failure()
 	}
-	out := s.in.Data[:s.in.At]
+	out := s.input.Data[:s.input.At]
 	if changed != nil {
 		out = changed
 	}
-	// memberlist's copy is held until it closes the stream.
+	// The bytes that memberlist may read count as held until it closes the stream.
 	s.streams.markComplete(s)
 	s.streams.reserve(s, cap(out)-s.load.bytes)
 	if isPushPull && !s.isDialed {
@@ -183,23 +187,24 @@ func (s *stream) inspect() ([]byte, Reason) {
 	return out, none
 }
 
-// inspectEncrypted inspects an encrypted message (net.go, decryptRemoteState), and encrypts it again if it changed.
+// inspectEncrypted inspects an encrypted message (net.go, decryptRemoteState), and encrypts it again if the inspection
+// changed it.
 func (s *stream) inspectEncrypted(ciphers []cipher.AEAD) (changed []byte, isPushPull bool) {
-	length := s.in.Uint(streamHeader - 1)
+	length := s.input.Uint(streamHeader - 1)
 	if length > uint64(s.bounds.StreamBytes) {
-		s.in.failWith(TooLong)
+		s.input.failWith(TooLong)
 	}
-	body := s.in.Take(int(length))
-	s.in.failWith(s.streams.reserve(s, len(body)))
-	if s.in.Err != nil {
+	body := s.input.Take(int(length))
+	s.input.failWith(s.streams.reserve(s, len(body)))
+	if s.input.Err != nil {
 		return nil, false
 	}
-	data, reason := open(ciphers, body, s.in.Data[:streamHeader], make([]byte, 0, len(body)))
-	s.in.failWith(reason)
+	data, reason := open(ciphers, body, s.input.Data[:streamHeader], make([]byte, 0, len(body)))
+	s.input.failWith(reason)
 	plain := newReader(data)
 	changed, isPushPull = s.inspectWrapped(&plain, true)
-	if changed != nil && s.in.Err == nil {
-		s.in.failWith(s.streams.reserve(s, len(changed)))
+	if changed != nil && s.input.Err == nil {
+		s.input.failWith(s.streams.reserve(s, len(changed)))
 		changed = sealStream(ciphers[0], changed)
 	}
 	return changed, isPushPull
@@ -207,11 +212,11 @@ func (s *stream) inspectEncrypted(ciphers []cipher.AEAD) (changed []byte, isPush
 
 // inspectWrapped inspects a whole message that was inside a wrapper.
 func (s *stream) inspectWrapped(r *reader, mayBeCompressed bool) (changed []byte, isPushPull bool) {
-	if s.in.Err == nil {
+	if s.input.Err == nil {
 		changed, isPushPull = s.inspectMessage(r, mayBeCompressed)
-		s.in.failWith(r.failure())
+		s.input.failWith(r.failure())
 		if r.At < len(r.Data) {
-			s.in.failWith(Trailing)
+			s.input.failWith(Trailing)
 		}
 	}
 	return changed, isPushPull
@@ -230,8 +235,8 @@ func (s *stream) inspectMessage(r *reader, mayBeCompressed bool) (changed []byte
 		var data []byte
 		reason := r.readFields(s.schemas.byType[msgType], &values)
 		if reason == none {
-			hold := func(growth int) Reason { return s.streams.reserve(s, growth) }
-			data, reason = inflate(values[fieldCompressBuf].bytes, nil, s.bounds.StreamBytes, hold)
+			reserve := func(growth int) Reason { return s.streams.reserve(s, growth) }
+			data, reason = inflate(values[fieldCompressBuf].bytes, nil, s.bounds.StreamBytes, reserve)
 		}
 		if r.failWith(reason); r.Err == nil {
 			inner := newReader(data)

@@ -6,7 +6,7 @@ import (
 	"time"
 )
 
-// pushPullTime is how long a push/pull keeps its place for certain. After that it is closed if others wait.
+// pushPullTime is how long a push/pull can keep its place. After that, the guard closes it if others are waiting.
 const pushPullTime = time.Second
 
 // answerBytesPerNode is an estimate of the memory in bytes that memberlist needs for each known node when it answers a
@@ -14,17 +14,18 @@ const pushPullTime = time.Second
 // with long tags needs more.
 const answerBytesPerNode = 1 << 10
 
-// load is what a stream holds: bytes of buffers; and, if memberlist answers its push/pull, pushPulls is 1 and
-// answerBytes is the estimated size of the answer.
+// load is the memory and places that a stream holds. bytes is the size of its buffers. If memberlist is answering its
+// push/pull, pushPulls is 1 and answerBytes is the estimated size of the answer.
 type load struct{ bytes, pushPulls, answerBytes int }
 
+// add adds another load to this one if sign is 1, and subtracts it if sign is -1.
 func (l *load) add(other load, sign int) {
 	l.bytes += sign * other.bytes
 	l.pushPulls += sign * other.pushPulls
 	l.answerBytes += sign * other.answerBytes
 }
 
-// streams are the open streams, and what they hold together.
+// streams has the open streams, and their total load.
 type streams struct {
 	bounds *Settings
 	drops  *drops
@@ -32,20 +33,20 @@ type streams struct {
 	mu sync.Mutex
 	// accepted are the streams that others opened, the oldest first.
 	accepted []*stream
-	// total is the load of all streams. evicted is the part of it that belongs to streams the guard has closed, until
-	// memberlist closes them too.
-	total, evicted load
-	// changed is closed and replaced when there may be more room.
+	// total is the load of all streams. evictedLoad is the part of total that belongs to streams which the guard has closed
+	// and memberlist has not closed yet.
+	total, evictedLoad load
+	// changed is closed, and replaced by a new channel, when there may be more room.
 	changed chan struct{}
 
-	// allocated counts the bytes that streams and answers took since the last garbage collection that the guard
-	// started. gcMu is held during the collection.
+	// allocated counts the bytes that were allocated for streams and answers since the guard last started a garbage
+	// collection. gcMu is held during the collection.
 	gcMu      sync.Mutex
 	allocated int
 }
 
-// add registers an accepted stream. If there are too many, it closes the oldest incomplete stream, or else the oldest
-// one.
+// add registers an accepted stream. If there are too many streams, it closes the oldest incomplete stream, or the
+// oldest one if all are complete.
 func (s *streams) add(added *stream) {
 	s.mu.Lock()
 	defer s.mu.Unlock()
@@ -63,6 +64,7 @@ func (s *streams) add(added *stream) {
 	s.accepted = append(s.accepted, added)
 }
 
+// remove removes a stream from the accepted ones. The caller holds mu.
 func (s *streams) remove(removed *stream) {
 	for i, other := range s.accepted {
 		if other == removed {
@@ -77,18 +79,18 @@ func (s *streams) evict(victim *stream) {
 	if victim != nil && !victim.isClosed {
 		victim.isClosed = true
 		s.drops.add(Crowded)
-		s.evicted.add(victim.load, 1)
+		s.evictedLoad.add(victim.load, 1)
 		close(victim.done)
 		victim.Conn.Close()
 	}
 }
 
-// release frees all that a stream holds. memberlist has closed it.
+// release frees everything that a stream holds, after memberlist has closed the stream.
 func (s *streams) release(closed *stream) {
 	s.mu.Lock()
 	defer s.mu.Unlock()
 	if closed.isClosed {
-		s.evicted.add(closed.load, -1)
+		s.evictedLoad.add(closed.load, -1)
 	} else {
 		closed.isClosed = true
 		close(closed.done)
@@ -96,33 +98,34 @@ func (s *streams) release(closed *stream) {
 	s.remove(closed)
 	s.total.add(closed.load, -1)
 	closed.load = load{}
-	s.signal()
+	s.signalChange()
 }
 
-func (s *streams) signal() {
+// signalChange wakes the streams that wait for room. The caller holds mu.
+func (s *streams) signalChange() {
 	close(s.changed)
 	s.changed = make(chan struct{})
 }
 
-// pick returns, of the streams that may be evicted, the one that comes before all others; nil if there is none. mu is
-// held.
-func (s *streams) pick(may func(*stream) bool, isBefore func(a, b *stream) bool) (best *stream) {
+// pick returns the first stream, in the order of isBefore, that isn't closed and for which mayEvict returns true. If there
+// is none, it returns nil. The caller holds mu.
+func (s *streams) pick(mayEvict func(*stream) bool, isBefore func(a, b *stream) bool) (best *stream) {
 	for _, other := range s.accepted {
-		if !other.isClosed && may(other) && (best == nil || isBefore(other, best)) {
+		if !other.isClosed && mayEvict(other) && (best == nil || isBefore(other, best)) {
 			best = other
 		}
 	}
 	return best
 }
 
-// reserve adds bytes to what a stream holds, or subtracts them if more is negative. If there is no room, the incomplete
-// stream that holds the most is evicted.
+// reserve adds bytes to the load of a stream, or subtracts them if more is negative. If there is no room, it evicts the
+// incomplete stream with the largest number of bytes.
 func (s *streams) reserve(holder *stream, more int) Reason {
-	// A buffer that grows needs both its old and its new length.
+	// While a buffer grows, both the old and the new one need memory.
 	s.collectGarbage(2 * more)
 	return s.waitFor(holder, func() bool {
 		if more > 0 && s.total.bytes+more > s.bounds.AllBytes {
-			if s.total.bytes-s.evicted.bytes+more > s.bounds.AllBytes {
+			if s.total.bytes-s.evictedLoad.bytes+more > s.bounds.AllBytes {
 				s.evict(s.pick(func(other *stream) bool { return other != holder && !other.isComplete && other.load.bytes > 0 },
 					func(a, b *stream) bool { return a.load.bytes > b.load.bytes }))
 			}
@@ -131,14 +134,15 @@ func (s *streams) reserve(holder *stream, more int) Reason {
 		s.total.bytes += more
 		holder.load.bytes += more
 		if more < 0 {
-			s.signal()
+			s.signalChange()
 		}
 		return true
 	})
 }
 
-// collectGarbage runs Go's garbage collector, and waits for it, whenever streams and answers took AllBytes since the
-// last time. On a busy machine the collector runs late, and the memory that was freed would keep growing meanwhile.
+// collectGarbage runs Go's garbage collector, and waits for it, whenever AllBytes were allocated for streams and
+// answers since the last time. On a busy machine, the collector would otherwise run late, and the memory in use would
+// keep growing until then.
 func (s *streams) collectGarbage(more int) {
 	if more <= 0 {
 		return
@@ -151,25 +155,25 @@ func (s *streams) collectGarbage(more int) {
 	}
 }
 
-// hasRoom reports whether a push/pull whose answer takes this many bytes may start next to the others. One without any
-// others always may.
+// hasRoom reports whether a push/pull whose answer needs this many bytes may start in addition to the others. If there
+// are no others, it always may.
 func (s *streams) hasRoom(others load, answer int) bool {
 	return others.pushPulls == 0 || others.pushPulls < s.bounds.PushPulls && others.answerBytes+answer <= s.bounds.AllBytes
 }
 
-// startPushPull lets memberlist answer a push/pull; answer is the estimated size in bytes. If there is no room, the
-// push/pull waits, and the oldest one that has had its pushPullTime is evicted.
+// startPushPull lets memberlist answer a push/pull. answer is the estimated size of the answer in bytes. If there is no
+// room, the push/pull waits, and the oldest push/pull that is older than pushPullTime is evicted.
 func (s *streams) startPushPull(started *stream, answer int) Reason {
 	s.collectGarbage(answer)
 	return s.waitFor(started, func() bool {
-		staying := s.total
-		staying.add(s.evicted, -1)
+		remainingLoad := s.total
+		remainingLoad.add(s.evictedLoad, -1)
 		switch {
 		case s.hasRoom(s.total, answer):
 			started.load.pushPulls, started.load.answerBytes, started.pushPullSince = 1, answer, time.Now()
 			s.total.add(load{pushPulls: 1, answerBytes: answer}, 1)
 			return true
-		case !s.hasRoom(staying, answer):
+		case !s.hasRoom(remainingLoad, answer):
 			s.evict(s.pick(func(other *stream) bool {
 				return other.load.pushPulls > 0 && time.Since(other.pushPullSince) > pushPullTime
 			},
@@ -179,11 +183,11 @@ func (s *streams) startPushPull(started *stream, answer int) Reason {
 	})
 }
 
-// waitFor repeats try until it succeeds. It returns Crowded if the stream is evicted or its deadline passes first.
-func (s *streams) waitFor(waiting *stream, try func() bool) Reason {
+// waitFor repeats tryOnce until it succeeds. It returns Crowded if the stream is evicted or its deadline passes first.
+func (s *streams) waitFor(waiting *stream, tryOnce func() bool) Reason {
 	for {
 		s.mu.Lock()
-		isDone := !waiting.isClosed && try()
+		isDone := !waiting.isClosed && tryOnce()
 		changed := s.changed
 		s.mu.Unlock()
 		if isDone {
@@ -205,7 +209,8 @@ func (s *streams) waitFor(waiting *stream, try func() bool) Reason {
 	}
 }
 
-// markComplete notes that the stream's message is complete, so the stream is the last to be evicted.
+// markComplete records that the stream's message is complete. Complete streams are evicted only after all incomplete
+// ones.
 func (s *streams) markComplete(complete *stream) {
 	s.mu.Lock()
 	complete.isComplete = true

@@ -22,38 +22,39 @@ type Transport struct {
 	packets    chan *memberlist.Packet
 	conns      chan net.Conn
 	inspectors sync.Pool
-	// closed is closed when the transport is shut down: it delivers nothing after that.
+	// closed is closed when the transport is shut down. The transport delivers nothing after that.
 	closed    chan struct{}
 	closeOnce sync.Once
 	closeErr  error
-	// running counts the goroutines that receive, and proving the one of prove.
+	// running counts the goroutines that receive, and proving the goroutine that runs prove.
 	running, proving sync.WaitGroup
 }
 
 var _ memberlist.NodeAwareTransport = &Transport{}
 
-// carrier is what carries packets and streams: sockets, or another transport.
+// carrier sends and receives packets and streams. It is either sockets or another transport.
 type carrier interface {
-	// receive delivers what arrives, in goroutines that t.running counts. Only its first call has an effect.
+	// receive starts goroutines that deliver the packets and streams that arrive. t.running counts these goroutines.
+	// Only the first call has an effect.
 	receive(t *Transport)
 	send(b []byte, to memberlist.Address) (time.Time, error)
 	dial(to memberlist.Address, timeout time.Duration) (net.Conn, error)
 	finalAdvertiseAddr(given string, port int) (net.IP, int, error)
-	// port is the port at which the sockets listen, or 0.
+	// port returns the port on which the sockets listen, or 0 if there are no sockets.
 	port() int
 	// close makes the goroutines of receive end.
 	close() error
 }
 
-func newTransport(shared *core, over carrier, log *log.Logger) *Transport {
+func newTransport(shared *core, carrier carrier, log *log.Logger) *Transport {
 	t := &Transport{
-		core: shared, carrier: over, log: log, packets: make(chan *memberlist.Packet), conns: make(chan net.Conn), closed: make(chan struct{}),
+		core: shared, carrier: carrier, log: log, packets: make(chan *memberlist.Packet), conns: make(chan net.Conn), closed: make(chan struct{}),
 	}
 	t.inspectors.New = func() any { return newInspector(shared) }
 	return t
 }
 
-// Port returns the port at which the transport listens. It is 0 if the transport is one around another.
+// Port returns the port on which the transport listens. It returns 0 if this transport is around another one.
 func (t *Transport) Port() int { return t.port() }
 
 // PacketCh implements memberlist.Transport.
@@ -68,11 +69,11 @@ func (t *Transport) StreamCh() <-chan net.Conn {
 	return t.conns
 }
 
-// Shutdown implements memberlist.Transport. It also shuts down the transport that this one is around.
+// Shutdown implements memberlist.Transport. It also shuts down the transport that this one wraps.
 func (t *Transport) Shutdown() error {
 	t.closeOnce.Do(func() {
 		close(t.closed)
-		t.receive(t) // What arrives while the carrier is closed has to be received too.
+		t.receive(t) // Packets and streams that arrive while the carrier closes have to be received too.
 		t.closeErr = t.close()
 	})
 	t.running.Wait()
@@ -80,23 +81,23 @@ func (t *Transport) Shutdown() error {
 	return t.closeErr
 }
 
-// deliver inspects a packet, and gives memberlist a copy of what it may read.
+// deliver inspects a packet, and passes a copy of the bytes that memberlist may read to memberlist.
 func (t *Transport) deliver(ins *inspector, packet []byte, from net.Addr, at time.Time) {
 	ins.from = from
 	if allowed := ins.inspect(packet); allowed != nil {
-		t.pass(&memberlist.Packet{Buf: append([]byte(nil), allowed...), From: from, Timestamp: at})
+		t.passToMemberlist(&memberlist.Packet{Buf: append([]byte(nil), allowed...), From: from, Timestamp: at})
 	}
 }
 
-// pass gives memberlist a packet.
-func (t *Transport) pass(packet *memberlist.Packet) {
+// passToMemberlist passes a packet to memberlist.
+func (t *Transport) passToMemberlist(packet *memberlist.Packet) {
 	select {
 	case t.packets <- packet:
 	case <-t.closed:
 	}
 }
 
-// deliverStream hands a connection to memberlist as a stream that is inspected when memberlist first reads from it.
+// deliverStream passes a connection to memberlist, as a stream that is inspected when memberlist first reads from it.
 func (t *Transport) deliverStream(conn net.Conn) {
 	s := t.newStream(conn, false)
 	s.peer = addrOf(conn.RemoteAddr())
@@ -162,9 +163,9 @@ func (t *Transport) DialAddressTimeout(to memberlist.Address, timeout time.Durat
 	return s, nil
 }
 
-// FinalAdvertiseAddr implements memberlist.Transport. It returns the address that is given, or else the address at
-// which the transport listens, or, if that is 0.0.0.0, a private address of the host. Around another transport, it
-// returns what that one returns.
+// FinalAdvertiseAddr implements memberlist.Transport. It returns the given address if there is one. Otherwise, it
+// returns the address on which the transport listens or, if that is 0.0.0.0, a private address of the host. If this
+// transport is around another one, it returns the result of the other one.
 func (t *Transport) FinalAdvertiseAddr(given string, port int) (net.IP, int, error) {
 	return t.finalAdvertiseAddr(given, port)
 }

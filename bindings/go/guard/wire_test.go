@@ -11,6 +11,7 @@ import (
 	"github.com/hashicorp/go-msgpack/codec"
 )
 
+// encode encodes a value by go-msgpack.
 func encode(what any) []byte {
 	var out bytes.Buffer
 	if err := codec.NewEncoder(&out, &codec.MsgpackHandle{}).Encode(what); err != nil {
@@ -22,7 +23,8 @@ func encode(what any) []byte {
 // message returns a message of this type, encoded by go-msgpack.
 func message(kind byte, what any) []byte { return append([]byte{kind}, encode(what)...) }
 
-func with(base, changes map[string]any) map[string]any {
+// withChanges returns the fields of base with these changes.
+func withChanges(base, changes map[string]any) map[string]any {
 	merged := map[string]any{}
 	for _, fields := range []map[string]any{base, changes} {
 		for key, value := range fields {
@@ -35,24 +37,26 @@ func with(base, changes map[string]any) map[string]any {
 	return merged
 }
 
-// absent as a field's value leaves the field out.
+// absent is a field value that makes the function with leave the field out.
 const absent = "without"
 
 var versionsOf = []byte{1, 5, 2, 2, 5, 4}
 
+// alive returns an alive message of a node with these changes of its fields.
 func alive(name string, changes map[string]any) []byte {
-	return message(msgAlive, with(map[string]any{
+	return message(msgAlive, withChanges(map[string]any{
 		"Incarnation": 1, "Node": name, "Addr": []byte{127, 0, 0, 9}, "Port": 9, "Meta": []byte("meta"), "Vsn": versionsOf,
 	}, changes))
 }
 
 // node returns an entry of a push/pull. The node is dead, so that the child doesn't probe it.
 func node(name string, changes map[string]any) map[string]any {
-	return with(map[string]any{
+	return withChanges(map[string]any{
 		"Name": name, "Addr": []byte{127, 0, 0, 9}, "Port": 9, "Meta": []byte("meta"), "Incarnation": 1, "State": 2, "Vsn": versionsOf,
 	}, changes)
 }
 
+// pushPull returns a push/pull with these nodes and a user state of this length.
 func pushPull(nodes []map[string]any, length int) []byte {
 	return pushPullOf(nodes, make([]byte, length))
 }
@@ -68,10 +72,12 @@ func pushPullOf(nodes []map[string]any, state []byte) []byte {
 
 func compound(parts ...[]byte) []byte { return encodeCompound(parts) }
 
-func checked(body []byte) []byte {
+// withChecksum returns a message inside the wrapper that has a CRC.
+func withChecksum(body []byte) []byte {
 	return append(binary.BigEndian.AppendUint32([]byte{msgChecksum}, crc32.ChecksumIEEE(body)), body...)
 }
 
+// lzwOf compresses bytes as memberlist does.
 func lzwOf(body []byte) []byte {
 	var out bytes.Buffer
 	w := lzw.NewWriter(&out, lzw.LSB, 8)
@@ -80,6 +86,7 @@ func lzwOf(body []byte) []byte {
 	return out.Bytes()
 }
 
+// compressed returns a message inside the wrapper that compresses it.
 func compressed(body []byte) []byte {
 	return message(msgCompress, map[string]any{"Algo": 0, "Buf": lzwOf(body)})
 }

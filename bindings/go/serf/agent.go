@@ -8,15 +8,16 @@ import (
 	"kitchenrue.example/serfagent"
 )
 
-// Burst is the maximum number of packets that are processed with one flush, and the maximum number of firings. A burst has what is already
-// waiting, so a node with little to do flushes each event at once. A kill between the flush and EventCh loses at most the events of one
-// burst, and those that wait for EventCh.
+// Burst is the maximum number of packets that are processed with one flush, and the maximum number of firings. The
+// agent doesn't wait to fill a burst, so a node with little to do flushes each event at once. If the process is killed
+// between the flush and the delivery, it loses at most the events of one burst and those that wait for EventCh.
 const Burst = 256
 
 // outcomeRetryDelay is how long to wait for memory before reading the outcomes of a burst again.
 const outcomeRetryDelay = 10 * time.Millisecond
 
-// Packet is a packet as the proved agent receives it. TagsPass says whether this node's tags pass each tag filter of the query in it.
+// Packet is a packet for the proved agent. If the packet is a query, TagsPass says whether this node's tags pass all of
+// its tag filters.
 type Packet struct {
 	Data     []byte
 	TagsPass bool
@@ -28,18 +29,19 @@ type Firing struct {
 	Coalesce      bool
 }
 
-// Agent is the proved agent, as a node calls it. Calls that change it are made one at a time. Config.Wrap may put another implementation in
-// front of it.
+// Agent has the methods of the proved agent that a node calls. The node makes the calls that change the agent one at a
+// time. Config.Wrap may put another implementation in front of the proved agent.
 type Agent interface {
-	// TakeAll receives packets and then fires events, with one flush for all of them. It returns an outcome for each, in order. If memory
-	// runs out, the outcomes that it returns with that error are those of the first calls, and the remaining calls were not made. If the
-	// file fails, it returns no outcome.
+	// TakeAll receives packets and then fires events, with one flush for all of them. It returns one outcome for each
+	// packet and each firing, in order. If memory runs out, it returns OutOfMemory and the outcomes of the first
+	// packets and firings; it did not process the rest. If the file fails, it returns no outcome.
 	TakeAll(now uint64, packets []Packet, firings []Firing) ([]serfagent.Outcome, error)
 	Merge(packet []byte, isJoin bool) ([]*serfagent.Event, error)
 	LocalState(statuses []serfagent.Status, left []string) ([]byte, error)
 	Query(now uint64, id uint32, name, payload []byte, params serfagent.QueryParams) (*serfagent.FiredQuery, error)
 	Respond(now, number uint64, payload []byte) ([]byte, error)
-	// Forget forgets a query that was handed out and won't be answered. CloseDue forgets the queries whose deadline has passed.
+	// Forget forgets a query that was handed out and that this node won't answer. CloseDue forgets the queries whose
+	// deadline has passed.
 	Forget(number uint64) error
 	CloseDue(now uint64) ([]*serfagent.Closed, error)
 	Clocks() (serfagent.Clocks, error)
@@ -48,12 +50,13 @@ type Agent interface {
 	ObserveMember(time uint64) error
 	NextMemberTime() (uint64, error)
 	SaveMemberClock() error
-	// CompactWith replaces the file by the agent's own lines and by these, which follow them, in one step.
+	// CompactWith replaces the file, in one step, with a file that has the agent's own lines followed by the given
+	// lines.
 	CompactWith(lines []byte) error
 	Close() error
 }
 
-// proved is the proved agent with its burst, which is used for one call at a time.
+// proved is the proved agent together with the burst that TakeAll fills. Each call of TakeAll reuses the burst.
 type proved struct {
 	*serfagent.Agent
 	burst serfagent.Burst
@@ -61,11 +64,19 @@ type proved struct {
 
 var _ Agent = &proved{}
 
-// Proved returns a proved agent as a node calls it, for programs that wrap one.
+// Opening has the settings with which a proved agent was opened, and the text of its snapshot at that moment, without
+// filler. The text is empty if the agent has no file.
+type Opening struct {
+	Settings serfagent.Settings
+	Text     []byte
+}
+
+// Proved returns an Agent that calls this proved agent. Programs that wrap a proved agent use it.
 func Proved(agent *serfagent.Agent) Agent { return &proved{Agent: agent} }
 
-// TakeAll makes all calls as one burst. It reads the outcomes of all calls that were made, even if it has to wait for memory: their lines
-// are on the disk, so no later life would hand these events out.
+// TakeAll passes all packets and firings to the proved agent as one burst. It reads the outcome of each one that was
+// processed, even if it has to wait for memory. The lines of these events are already on the disk, so no later life
+// would hand them out.
 func (p *proved) TakeAll(now uint64, packets []Packet, firings []Firing) ([]serfagent.Outcome, error) {
 	p.burst.Reset()
 	for _, packet := range packets {
@@ -78,13 +89,13 @@ func (p *proved) TakeAll(now uint64, packets []Packet, firings []Firing) ([]serf
 	return readOutcomes(p, outcomes, err)
 }
 
-// outcomeSource has outcomes that could not be read because memory ran out.
+// outcomeSource is an agent that still has outcomes to read, because memory ran out while they were being read.
 type outcomeSource interface {
 	UnreadOutcomes() (int, error)
 	Outcomes() ([]serfagent.Outcome, error)
 }
 
-// readOutcomes reads the remaining outcomes if memory ran out while they were read.
+// readOutcomes reads the remaining outcomes if memory ran out while the agent was reading them.
 func readOutcomes(source outcomeSource, outcomes []serfagent.Outcome, burstErr error) ([]serfagent.Outcome, error) {
 	for burstErr == serfagent.OutOfMemory {
 		unread, err := source.UnreadOutcomes()
@@ -104,6 +115,7 @@ func readOutcomes(source outcomeSource, outcomes []serfagent.Outcome, burstErr e
 // isClosed reports whether this error means that the proved agent is closed because its file failed.
 func isClosed(err error) bool { return err != nil && meansClosed(err) }
 
+// meansClosed is isClosed for an error that isn't nil.
 func meansClosed(err error) bool {
 	var code serfagent.Code
 	var refusal Error
@@ -113,32 +125,39 @@ func meansClosed(err error) bool {
 	return !errors.As(err, &code) || code == serfagent.Empty
 }
 
-// lockTimeout is how long to wait for a file that another process has locked. If a node is killed while it starts another program, such as
-// a handler, that process holds the lock until it has become the program: for a moment, or longer on a busy machine.
+// lockTimeout is how long to wait for a file that another process has locked. If a node is killed while it starts
+// another program, such as a handler, the new process holds the lock until it executes that program. That usually takes
+// a moment, but longer on a busy machine.
 const lockTimeout = time.Second
 
-// openWhenUnlocked opens the proved agent on a file. It waits up to lockTimeout if the file is locked.
-func openWhenUnlocked(name, path string, settings serfagent.Settings) (*serfagent.Agent, error) {
-	for end := time.Now().Add(lockTimeout); ; time.Sleep(lockTimeout / 50) {
-		agent, err := serfagent.Open(name, path, settings)
-		if !errors.Is(err, serfagent.ErrLocked) || time.Now().After(end) {
-			return agent, err
+// openWhenUnlocked opens the proved agent on a file, and returns the file's text too. It waits up to lockTimeout if the file is locked.
+func openWhenUnlocked(name, path string, settings serfagent.Settings) (*serfagent.Agent, []byte, error) {
+	for deadline := time.Now().Add(lockTimeout); ; time.Sleep(lockTimeout / 50) {
+		agent, text, err := serfagent.OpenWithText(name, path, settings)
+		if !errors.Is(err, serfagent.ErrLocked) || time.Now().After(deadline) {
+			return agent, text, err
 		}
 	}
 }
 
-// openAgent opens the proved agent on the file that the configuration names, or in memory. It also returns the file for the lines of
-// members, and the members of the last life; both are nil in memory.
+// openAgent opens the proved agent on the configured file, or in memory if no file is configured, and wraps it if
+// Config.Wrap is set. It also returns the file to which the lines of members are written, and the members of the last
+// life. Both are nil if the agent is in memory.
 func openAgent(c *Config) (Agent, *snapshotFile, []PreviousNode, error) {
+	opening := Opening{Settings: c.agentSettings()}
 	if c.SnapshotPath == "" {
-		agent, err := serfagent.OpenInMemory(c.NodeName, c.agentSettings())
-		return &proved{Agent: agent}, nil, nil, err
+		agent, err := serfagent.OpenInMemory(c.NodeName, opening.Settings)
+		if err != nil {
+			return nil, nil, nil, err
+		}
+		wrapped, err := c.wrap(Proved(agent), opening)
+		return wrapped, nil, nil, err
 	}
 	path, err := filepath.Abs(c.SnapshotPath)
 	if err != nil {
 		return nil, nil, nil, err
 	}
-	agent, err := openWhenUnlocked(c.NodeName, path, c.agentSettings())
+	agent, text, err := openWhenUnlocked(c.NodeName, path, opening.Settings)
 	if err != nil {
 		return nil, nil, nil, &FieldError{"SnapshotPath", err}
 	}
@@ -147,5 +166,24 @@ func openAgent(c *Config) (Agent, *snapshotFile, []PreviousNode, error) {
 		agent.Close()
 		return nil, nil, nil, &FieldError{"SnapshotPath", err}
 	}
-	return &proved{Agent: agent}, file, previous, nil
+	opening.Text = text
+	wrapped, err := c.wrap(Proved(agent), opening)
+	if err != nil {
+		file.close()
+		return nil, nil, nil, err
+	}
+	return wrapped, file, previous, nil
+}
+
+// wrap puts the agent that Config.Wrap returns in front of a proved agent. If Wrap fails, it closes the proved one.
+func (c *Config) wrap(agent Agent, opening Opening) (Agent, error) {
+	if c.Wrap == nil {
+		return agent, nil
+	}
+	wrapped, err := c.Wrap(agent, opening)
+	if err != nil {
+		agent.Close()
+		return nil, err
+	}
+	return wrapped, nil
 }

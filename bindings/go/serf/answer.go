@@ -15,7 +15,7 @@ func (s *Serf) respond(query *serfagent.PendingQuery, payload []byte) error {
 	packet, err := s.agent.Respond(s.now(), query.Number, payload)
 	switch {
 	case errors.Is(err, serfagent.NotPending) && s.now() > query.Deadline:
-		// (the proved agent has forgotten queries whose deadline has passed)
+		// (the proved agent forgets a query when its deadline has passed)
 		return errTooLate
 	case errors.Is(err, serfagent.NotPending):
 		return errAnswered
@@ -34,9 +34,10 @@ func (s *Serf) respond(query *serfagent.PendingQuery, payload []byte) error {
 // limit one forged query could make each node send hundreds of packets.
 const maxRelays = 8
 
-// relays returns the nodes through which an answer is relayed, too: as many as the relay factor of the query says, up to maxRelays. As in
-// Serf, there are none if the cluster has fewer nodes than that besides this one. There are also none if no member has the query's name and
-// address, since they would not relay to it.
+// relays returns the nodes that relay an answer in addition to the direct packet. Their number is the query's relay
+// factor, but at most maxRelays. As in Serf, relays returns none if the cluster has fewer other nodes than the relay
+// factor. It also returns none if no member has the name and address of the query's source, since the relays would drop
+// the answer.
 func (s *Serf) relays(query *serfagent.PendingQuery) []Member {
 	factor, source := int(query.RelayFactor), string(query.Source)
 	if factor == 0 || s.members.size() < factor+1 || !s.isMember(source, query.Addr, query.Port) {
@@ -73,7 +74,8 @@ func (s *Serf) sendReply(query *serfagent.PendingQuery, packet []byte) {
 	}
 }
 
-// sendToNode sends a packet to a node's address. It only logs a failure: packets may be lost anyway.
+// sendToNode sends a packet to a node's address. If that fails, it only logs a warning, since the network may lose
+// packets anyway.
 func (s *Serf) sendToNode(name string, addr net.IP, port uint16, packet []byte) {
 	if len(addr) != net.IPv4len && len(addr) != net.IPv6len {
 		// (memberlist would look it up as a name)
@@ -86,7 +88,8 @@ func (s *Serf) sendToNode(name string, addr net.IP, port uint16, packet []byte) 
 	}
 }
 
-// relayPacket forwards a message to the member that it is for. If no member has this name and address, the message is dropped.
+// relayPacket forwards a relayed message to its destination. If no member has the destination's name and address, it
+// drops the message.
 func (s *Serf) relayPacket(packet []byte) {
 	relayed, err := decodeRelay(packet)
 	if err != nil {

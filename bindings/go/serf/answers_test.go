@@ -30,7 +30,8 @@ func TestIsMajority(t *testing.T) {
 	}
 }
 
-// An answer is relayed through nodes other than the one that fired the query. That node gets the answer itself, and no relay to itself.
+// A node relays an answer only through nodes other than the one that fired the query. The node that fired it receives
+// the answer directly, and is not asked to relay the answer to itself.
 func TestAnswersAreRelayedByOthersOnly(t *testing.T) {
 	a := startNode(t, "a", "", withAgent(&fakeAgent{}), func(o *nodeOptions) { o.MemberlistConfig.EnableCompression = false })
 	sockets := map[string]*net.UDPConn{}
@@ -45,14 +46,14 @@ func TestAnswersAreRelayedByOthersOnly(t *testing.T) {
 	a.sendReply(&serfagent.PendingQuery{Source: []byte("asker"), Addr: asker.Addr, Port: asker.Port, RelayFactor: 2}, []byte("\x06answer"))
 	for name, want := range map[string]string{"asker": "[6]", "other": "[9]"} {
 		var types []byte
-		// (everything is sent already, so a second packet needs no long wait)
+		// (all packets have been sent by then, so the test doesn't wait long for a second one)
 		for wait, data := time.Minute, make([]byte, 1500); ; wait = 200 * time.Millisecond {
 			_ = sockets[name].SetReadDeadline(time.Now().Add(wait))
 			count, err := sockets[name].Read(data)
 			if err != nil {
 				break
 			}
-			// (memberlist's type of a user message is first, then the type of our message)
+			// (the first byte is memberlist's type of a user message, and the second one is the type of our message)
 			if count > 1 && data[0] == 8 {
 				types = append(types, data[1])
 			}
@@ -63,8 +64,8 @@ func TestAnswersAreRelayedByOthersOnly(t *testing.T) {
 	}
 }
 
-// An answer is relayed by as many nodes as the query says, up to a limit, if the cluster has that many. Answers to an address that no member
-// has are not relayed.
+// The query's relay factor, up to a limit, is the number of nodes that relay an answer, if the cluster has enough
+// nodes. Answers to an address that no member has are not relayed.
 func TestRelaysAreBounded(t *testing.T) {
 	a := startNode(t, "a", "", withAgent(&fakeAgent{}))
 	addr := net.IPv4(127, 0, 0, 9).To4()

@@ -36,7 +36,7 @@ func TestMemberlistCallsDoNotWaitForDisk(t *testing.T) {
 	close(f.flushGate)
 }
 
-// LocalState waits for a flush of 200 milliseconds. During a longer flush it returns the last state, and afterwards the present one.
+// LocalState waits for a flush of 200 milliseconds. During a longer flush it returns the last state, and after the flush the current one.
 func TestLocalStateWaitsForFlush(t *testing.T) {
 	f := &fakeAgent{flushGate: make(chan struct{})}
 	a := startNode(t, "a", "", withAgent(f))
@@ -73,7 +73,7 @@ func TestBroadcastsOfEachKindHaveRoom(t *testing.T) {
 	if found := kinds(); found[0] < 20 || found[1] < 10 || found[2] < 10 {
 		t.Error(found)
 	}
-	// neither queries that are longer than half of the room, nor a flood of events, block the others
+	// (neither queries that are longer than half of the room nor a flood of events block the other kinds)
 	b := startNode(t, "b", "", withAgent(&fakeAgent{}), func(o *nodeOptions) { o.MemberlistConfig.RetransmitMult = 100 })
 	b.queueBroadcast(b.queries, append([]byte{1}, make([]byte, 1023)...), nil)
 	b.queueBroadcast(b.Serf.events, append([]byte{2}, make([]byte, 700)...), nil)
@@ -119,7 +119,7 @@ func TestQueuesAreLimited(t *testing.T) {
 
 // A packet that is too long for memberlist's gossip is dropped, and its sender does not wait for it.
 func TestPacketsTooLongToGossip(t *testing.T) {
-	// (of 1,400 bytes memberlist leaves this many for packets, and uses three for each)
+	// (room is how many of 1,400 bytes memberlist leaves for packets; it needs three of these for each packet)
 	for _, test := range []struct {
 		key  []byte
 		room int
@@ -159,20 +159,21 @@ func TestDroppedQueryIsForgotten(t *testing.T) {
 	}
 }
 
-// The proved agent no longer knows a query that was answered or whose deadline has passed. The error says which of the two it is.
+// The proved agent no longer knows a query that was answered or whose deadline has passed. The error of Respond says
+// which of the two has happened.
 func TestRespondErrors(t *testing.T) {
 	a := startNode(t, "a", "", withAgent(&fakeAgent{}))
 	for _, test := range []struct {
 		query Query
 		want  error
 	}{
-		{Query{handed: &serfagent.PendingQuery{}}, errTooLate},
-		{Query{handed: &serfagent.PendingQuery{Deadline: math.MaxUint64}}, errAnswered},
-		{Query{handed: &serfagent.PendingQuery{}, answered: 1}, errAnswered},
+		{Query{pending: &serfagent.PendingQuery{}}, errTooLate},
+		{Query{pending: &serfagent.PendingQuery{Deadline: math.MaxUint64}}, errAnswered},
+		{Query{pending: &serfagent.PendingQuery{}, answered: 1}, errAnswered},
 	} {
 		test.query.serf = a.Serf
 		if err := test.query.Respond(nil); err != test.want {
-			t.Error(test.query.handed.Deadline, err)
+			t.Error(test.query.pending.Deadline, err)
 		}
 	}
 }
@@ -220,15 +221,15 @@ func TestBurstOfPacketsAndFirings(t *testing.T) {
 	f := &fakeAgent{}
 	a := startNode(t, "a", "", withAgent(f))
 	burst := func() *firing {
-		firing := &firing{Firing: Firing{Name: []byte("x")}, isDone: make(chan struct{}, 1)}
+		firing := &firing{Firing: Firing{Name: []byte("x")}, done: make(chan struct{}, 1)}
 		if isLeader, ok := a.firings.add(firing); !isLeader || !ok {
 			t.Fatal("another goroutine fires")
 		}
 		if err := a.processBurst([][]byte{{3, 'p'}, {3}}); err != f.receiveErr {
 			t.Error(err)
 		}
-		a.firings.passLead()
-		<-firing.isDone
+		a.firings.leaveToFireAll()
+		<-firing.done
 		return firing
 	}
 	if fired := burst(); fired.err != nil || fired.time != 2 {
@@ -350,11 +351,11 @@ func TestFiredEventsAreQueuedForGossip(t *testing.T) {
 	}
 }
 
-// gatherWait waits for the callers of the last flush if they usually fire again before another flush would end. If others were waiting as
+// outstandingWait waits for the callers of the last flush if they usually fire again before another flush would end. If others were waiting as
 // well, all of them together are expected to take longer.
-func TestGatherWait(t *testing.T) {
+func TestOutstandingWait(t *testing.T) {
 	const flush = time.Hour
-	f, reported := newFiringQueue(), []*firing{{isDone: make(chan struct{}, 99)}, {isDone: make(chan struct{}, 99)}}
+	f, reported := newFiringQueue(), []*firing{{done: make(chan struct{}, 99)}, {done: make(chan struct{}, 99)}}
 	for _, test := range []struct {
 		sinceReport time.Duration
 		others      int
@@ -363,18 +364,18 @@ func TestGatherWait(t *testing.T) {
 		{0, 0, true}, {0, 0, true}, {2 * flush, 0, true}, {2 * flush, 0, true}, {flush, 0, false}, {0, 0, false}, {flush / 4, 0, true}, {flush / 4, 0, true},
 		{flush / 2, 2, true}, {flush / 2, 2, true}, {flush / 2, 2, true}, {1 << 62, 2, true}, {flush, 200, false}, {0, 0, false}, {0, 200, true},
 	} {
-		if f.gatherWait() != 0 {
+		if f.outstandingWait() != 0 {
 			t.Error("no caller is outstanding, and it waits")
 		}
 		f.takeBatch(Burst)
 		for i := 0; i < test.others; i++ {
 			f.add(&firing{})
 		}
-		f.report(reported, flush)
-		if left := f.gatherWait(); left > maxGatherWait || (left > 0) != test.isAwaited {
+		f.wakeCallers(reported, flush)
+		if left := f.outstandingWait(); left > maxOutstandingWait || (left > 0) != test.isAwaited {
 			t.Errorf("%+v: it waits %v, and the estimate is %v", test, left, f.returnTime)
 		}
-		f.reportedAt = f.reportedAt.Add(-test.sinceReport)
+		f.wokenAt = f.wokenAt.Add(-test.sinceReport)
 		for i := range reported {
 			if len(f.noneOutstanding) != 0 {
 				t.Error("a caller is still outstanding", i)
@@ -385,7 +386,7 @@ func TestGatherWait(t *testing.T) {
 	}
 }
 
-// A disk that fails ends the node, and closes ShutdownCh.
+// If the disk fails, the node ends and closes ShutdownCh.
 func TestFileErrorEndsNode(t *testing.T) {
 	f := &fakeAgent{receiveErr: serfagent.ErrFull}
 	a := startNode(t, "a", "", withAgent(f))

@@ -6,18 +6,18 @@ import (
 	"time"
 )
 
-// minExchangeInterval is the minimum time between two state exchanges of a node that may have missed events. It exchanges states with up to
-// exchangePartners members. If an exchange takes long, because the states are long, the node waits exchangeWaitFactor times as long before
-// the next one.
+// minExchangeInterval is the minimum time between two state exchanges of a node that may have missed events. The node
+// exchanges states with up to exchangePartners members. Long states make an exchange slow: the node waits
+// exchangeWaitFactor times the duration of an exchange before it begins the next one.
 const (
 	minExchangeInterval = time.Second
 	exchangePartners    = 32
 	exchangeWaitFactor  = 10
 )
 
-// A single forged packet can make all nodes that keep events exchange states, so the exchanges are bounded. A node stops after maxFruitless
-// states in a row that had nothing new for it, and after maxFruitlessIfComplete if it knows of no missing time. It makes maxExchanges at
-// once, and after that one in each exchangeInterval.
+// A single forged packet can make all nodes that keep events exchange states, so the exchanges are bounded. A node
+// stops after maxFruitless exchanges in a row without a new event, or after maxFruitlessIfComplete if it knows of no
+// missing time. It makes up to maxExchanges without a pause, and after that one per exchangeInterval.
 const (
 	maxFruitless           = 8
 	maxFruitlessIfComplete = 3
@@ -25,36 +25,38 @@ const (
 	exchangeInterval       = 4 * time.Second
 )
 
-// exchangeBudget is how many exchanges may begin. It is below 0 if some wait for their interval.
+// exchangeBudget limits how many exchanges may begin. Its field available is below 0 if exchanges are waiting for their
+// interval.
 type exchangeBudget struct {
-	left int
-	// filled is when the last exchange was added to left.
-	filled time.Time
+	available int
+	// refilledAt is the time at which available was last increased.
+	refilledAt time.Time
 }
 
-// take takes an exchange from the budget, and returns how long to wait before it.
+// take takes one exchange from the budget, and returns how long to wait before that exchange begins.
 func (b *exchangeBudget) take(now time.Time) time.Duration {
-	if b.filled.IsZero() {
-		b.filled = now
+	if b.refilledAt.IsZero() {
+		b.refilledAt = now
 	}
-	grown := now.Sub(b.filled) / exchangeInterval
-	b.filled = b.filled.Add(grown * exchangeInterval)
-	if b.left += int(grown); b.left >= maxExchanges {
-		b.left, b.filled = maxExchanges, now
+	refill := now.Sub(b.refilledAt) / exchangeInterval
+	b.refilledAt = b.refilledAt.Add(refill * exchangeInterval)
+	if b.available += int(refill); b.available >= maxExchanges {
+		b.available, b.refilledAt = maxExchanges, now
 	}
-	if b.left--; b.left >= 0 {
+	if b.available--; b.available >= 0 {
 		return 0
 	}
-	return time.Duration(-b.left)*exchangeInterval - now.Sub(b.filled)
+	return time.Duration(-b.available)*exchangeInterval - now.Sub(b.refilledAt)
 }
 
-// hasAskedEnough reports whether a node stops asking others for their states.
-func hasAskedEnough(fruitless int, missing func() int) bool {
-	return fruitless >= maxFruitless || fruitless >= maxFruitlessIfComplete && missing() == 0
+// shouldStopExchanges reports whether a node has made enough exchanges without a new event to stop.
+func shouldStopExchanges(fruitless int, countMissing func() int) bool {
+	return fruitless >= maxFruitless || fruitless >= maxFruitlessIfComplete && countMissing() == 0
 }
 
-// checkForGap notices if an event's time isn't the next one. Then other nodes fired events before it that this node hasn't received, or
-// fired others at the same time while a link was cut. order is held.
+// checkForGap signals missedEvents if an event's time isn't the next one. In that case this node may have missed
+// events: other nodes fired some at earlier times, or fired others at the same time while a link was cut. The caller
+// holds agentMu.
 func (s *Serf) checkForGap(time uint64) {
 	if time != s.nextEventTime {
 		signal(s.missedEvents)
@@ -64,14 +66,14 @@ func (s *Serf) checkForGap(time uint64) {
 	}
 }
 
-// catchUp exchanges states with other members, one after another, after a join and whenever this node may have missed events, if it keeps
-// events. Gossip does not deliver each event to each node, and memberlist exchanges states only once in 30 seconds. By then the node that
-// had an event may have ended.
+// catchUp runs only if this node keeps events. After a join, and whenever the node may have missed events, it exchanges
+// states with other members, one after another. Gossip does not deliver each event to each node, and memberlist
+// exchanges states only once in 30 seconds. By then, the node that had a missing event may have ended.
 func (s *Serf) catchUp() {
 	if s.keptEvents == nil {
 		return
 	}
-	budget := exchangeBudget{left: maxExchanges}
+	budget := exchangeBudget{available: maxExchanges}
 	for {
 		select {
 		case <-s.ctx.Done():
@@ -80,7 +82,7 @@ func (s *Serf) catchUp() {
 		}
 		fruitless := 0
 		for _, member := range s.members.pickOthers(exchangePartners) {
-			if hasAskedEnough(fruitless, s.eventsMissing) {
+			if shouldStopExchanges(fruitless, s.eventsMissing) {
 				break
 			}
 			if wait := budget.take(time.Now()); wait > 0 {
@@ -89,10 +91,10 @@ func (s *Serf) catchUp() {
 			if s.ctx.Err() != nil || s.State() != SerfAlive {
 				return
 			}
-			before := s.mergedEvents.Load()
-			// (the state that arrived is merged during this wait)
+			mergedBefore := s.mergedEvents.Load()
+			// (during this wait, the receiving goroutine merges the other member's state)
 			s.waitFor(nil, s.exchange(member))
-			if fruitless++; s.mergedEvents.Load() != before {
+			if fruitless++; s.mergedEvents.Load() != mergedBefore {
 				fruitless = 0
 			}
 		}

@@ -5,14 +5,15 @@ import (
 	"time"
 )
 
-// withoutGossip leaves a node only joins, and the state exchanges that it starts itself.
+// withoutGossip turns off a node's gossip, pings and periodic state exchanges. The node still joins others, and makes
+// the state exchanges that it starts itself.
 func withoutGossip(o *nodeOptions) {
 	// (pings carry gossip too)
 	o.MemberlistConfig.GossipInterval, o.MemberlistConfig.PushPullInterval, o.MemberlistConfig.ProbeInterval = 0, 0, 0
 }
 
-// A node that keeps events and receives one that isn't the next one fetches the missed events from all others. A node that keeps none does
-// not.
+// If a node that keeps events receives an event whose time isn't the next one, it fetches the missed events from all
+// other nodes. A node that keeps no events does not.
 func TestMissedEventsAreFetched(t *testing.T) {
 	for what, isKeeping := range map[string]bool{"keeps": true, "keeps none": false} {
 		isKeeping := isKeeping
@@ -22,7 +23,8 @@ func TestMissedEventsAreFetched(t *testing.T) {
 			a, b := startNode(t, "a", folder, withoutGossip), startNode(t, "b", folder, withoutGossip)
 			k := startNode(t, "k", folder, withoutGossip, func(o *nodeOptions) { o.KeepEvents = isKeeping })
 			b.join(a)
-			// (Join returns before the other side has merged this node's state, and a doesn't hear of b in another way)
+			// (Join returns before the other side has merged this node's state, and without gossip a learns of b in no
+			// other way)
 			eventually(t, "a knows b", func() bool { return a.statusOf("b") == "alive" })
 			k.join(a)
 			eventually(t, "k knows both", func() bool { return k.statusOf("a") == "alive" && k.statusOf("b") == "alive" })

@@ -5,14 +5,16 @@ import (
 	"time"
 )
 
-// coalescer is the step between publish and the pipe. It holds events for a while. Of the user events of one name that may be coalesced, it
-// releases those of the last Lamport time; of each member, it releases the last event. All other events pass at once.
+// coalescer is the step between publish and the pipe. It holds some events for a while, and then releases only the
+// latest ones. Of the user events of one name that may be coalesced, it releases those with the largest Lamport time;
+// for each member, it releases the last member event. All other events pass at once.
 //
 // If the process is killed, the held events are lost: the proved agent has handed them out and never does so again.
 type coalescer struct {
 	publish func(...Event)
-	// supersede is called with each user event that is not released, since a later one of its name is held. It must not call the coalescer.
-	supersede func(UserEvent)
+	// The coalescer calls markSuperseded with each user event that it won't release, because it holds a later event of the
+	// same name. markSuperseded must not call the coalescer.
+	markSuperseded func(UserEvent)
 
 	mu                       sync.Mutex
 	userEvents, memberEvents heldEvents
@@ -27,16 +29,16 @@ type heldEvents struct {
 }
 
 // newCoalescer returns a coalescer that passes events to publish. publish must not call the coalescer.
-func newCoalescer(c *Config, out func(...Event)) *coalescer {
+func newCoalescer(c *Config, publish func(...Event)) *coalescer {
 	return &coalescer{
-		publish:      out,
-		supersede:    func(UserEvent) {},
-		userEvents:   heldEvents{period: c.UserCoalescePeriod, quietPeriod: c.UserQuiescentPeriod},
-		memberEvents: heldEvents{period: c.CoalescePeriod, quietPeriod: c.QuiescentPeriod},
+		publish:        publish,
+		markSuperseded: func(UserEvent) {},
+		userEvents:     heldEvents{period: c.UserCoalescePeriod, quietPeriod: c.UserQuiescentPeriod},
+		memberEvents:   heldEvents{period: c.CoalescePeriod, quietPeriod: c.QuiescentPeriod},
 	}
 }
 
-// add accepts events. Those that are not coalesced pass at once.
+// add accepts events. It passes events that are not coalesced to publish at once.
 func (c *coalescer) add(events ...Event) {
 	c.mu.Lock()
 	defer c.mu.Unlock()
@@ -51,7 +53,7 @@ func (c *coalescer) add(events ...Event) {
 	}
 }
 
-// holdIfCoalesced holds the event if events of its kind are coalesced, and otherwise returns false.
+// holdIfCoalesced holds an event and returns true if events of its kind are coalesced. Otherwise it returns false.
 func (c *coalescer) holdIfCoalesced(e Event) bool {
 	switch e := e.(type) {
 	case UserEvent:
@@ -70,7 +72,8 @@ func (c *coalescer) holdIfCoalesced(e Event) bool {
 	return false
 }
 
-// hold replaces the held events by these, the last of which has just arrived, and restarts the timer.
+// hold replaces the held events with the given ones, and restarts the timer. The last of the given events has just
+// arrived.
 func (c *coalescer) hold(h *heldEvents, events []Event) {
 	now := time.Now()
 	if len(h.events) == 0 {
@@ -100,23 +103,23 @@ func (c *coalescer) hold(h *heldEvents, events []Event) {
 	h.timer = timer
 }
 
-// withUserEvent adds a user event to the held ones. Of one name it keeps only the events of the largest time.
+// withUserEvent adds a user event to the held ones. For each name, it keeps only the events with the largest time.
 func (c *coalescer) withUserEvent(events []Event, e UserEvent) []Event {
 	kept := events[:0]
 	for _, event := range events {
 		if held := event.(UserEvent); held.Name != e.Name || held.LTime == e.LTime {
 			kept = append(kept, held)
 		} else if held.LTime > e.LTime {
-			c.supersede(e)
+			c.markSuperseded(e)
 			return events
 		} else {
-			c.supersede(held)
+			c.markSuperseded(held)
 		}
 	}
 	return append(kept, e)
 }
 
-// withMemberEvent adds the event of one member, in place of the held event of the same member.
+// withMemberEvent adds the event of one member, and removes the held event of the same member.
 func withMemberEvent(events []Event, e MemberEvent) []Event {
 	for i, event := range events {
 		if held := event.(MemberEvent); held.Members[0].Name == e.Members[0].Name {

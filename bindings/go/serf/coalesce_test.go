@@ -9,7 +9,7 @@ import (
 	"time"
 )
 
-// published keeps what a coalescer publishes, as one text for each event.
+// published collects the events that a coalescer publishes, each as a text.
 type published struct {
 	mu    sync.Mutex
 	texts []string
@@ -59,7 +59,7 @@ func userEvent(name string, ltime LamportTime, payload string) UserEvent {
 	return UserEvent{LTime: ltime, Name: name, Payload: []byte(payload), Coalesce: true}
 }
 
-// memberEvent makes a member event, which are given as NAME:PORT.
+// memberEvent makes a member event. Each member is given as NAME:PORT.
 func memberEvent(kind EventType, members ...string) MemberEvent {
 	event := MemberEvent{Type: kind}
 	for _, text := range members {
@@ -74,15 +74,16 @@ func memberEvent(kind EventType, members ...string) MemberEvent {
 	return event
 }
 
-// longPeriods holds each event for an hour, so that only flush and the bound release what is held.
+// longPeriods returns a configuration that holds each event for an hour, so that only flush and the limit release held
+// events.
 func longPeriods() *Config {
 	return &Config{CoalescePeriod: time.Hour, QuiescentPeriod: time.Hour, UserCoalescePeriod: time.Hour, UserQuiescentPeriod: time.Hour}
 }
 
 func TestCoalescing(t *testing.T) {
-	alone := UserEvent{LTime: 2, Name: "a", Payload: []byte("alone")}
-	users := func(c *Config) { c.CoalescePeriod, c.QuiescentPeriod = 0, 0 }
-	members := func(c *Config) { c.UserCoalescePeriod, c.UserQuiescentPeriod = 0, 0 }
+	notCoalesced := UserEvent{LTime: 2, Name: "a", Payload: []byte("alone")}
+	onlyUserPeriods := func(c *Config) { c.CoalescePeriod, c.QuiescentPeriod = 0, 0 }
+	onlyMemberPeriods := func(c *Config) { c.UserCoalescePeriod, c.UserQuiescentPeriod = 0, 0 }
 	for _, row := range []struct {
 		name    string
 		change  func(*Config)
@@ -91,8 +92,8 @@ func TestCoalescing(t *testing.T) {
 		flushed string
 	}{
 		// user events, and queries
-		{"an event that may not be coalesced", nil, []Event{alone}, "a@2=alone", ""},
-		{"the same while its name is held", nil, []Event{userEvent("a", 1, "x"), alone}, "a@2=alone", "a@1=x"},
+		{"an event that may not be coalesced", nil, []Event{notCoalesced}, "a@2=alone", ""},
+		{"the same while its name is held", nil, []Event{userEvent("a", 1, "x"), notCoalesced}, "a@2=alone", "a@1=x"},
 		{
 			"the last time of a name", nil,
 			[]Event{userEvent("a", 1, "x"), userEvent("b", 2, "y"), userEvent("a", 3, "z")},
@@ -160,7 +161,7 @@ func TestCoalescing(t *testing.T) {
 			[]Event{memberEvent(EventMemberLeave, "x:1"), memberEvent(EventMemberReap, "x:1")},
 			"", "member-reap x:1",
 		},
-		// both kinds, and either alone
+		// user events together with member events, while the coalescer holds both kinds or only one of them
 		{
 			"user events before member events", nil,
 			[]Event{memberEvent(EventMemberJoin, "x:1"), userEvent("a", 1, "x")},
@@ -168,16 +169,16 @@ func TestCoalescing(t *testing.T) {
 		},
 		{
 			"an event that passes overtakes a held one", nil,
-			[]Event{memberEvent(EventMemberJoin, "x:1"), alone, &Query{Name: "q"}},
+			[]Event{memberEvent(EventMemberJoin, "x:1"), notCoalesced, &Query{Name: "q"}},
 			"a@2=alone, query: q", "member-join x:1",
 		},
 		{
-			"user events alone", users,
+			"user events alone", onlyUserPeriods,
 			[]Event{memberEvent(EventMemberJoin, "x:1"), userEvent("a", 1, "x"), memberEvent(EventMemberFailed, "x:1")},
 			"member-join x:1, member-failed x:1", "a@1=x",
 		},
 		{
-			"member events alone", members,
+			"member events alone", onlyMemberPeriods,
 			[]Event{memberEvent(EventMemberJoin, "x:1"), userEvent("a", 1, "x"), userEvent("a", 2, "y")},
 			"a@1=x, a@2=y", "member-join x:1",
 		},
@@ -374,7 +375,8 @@ func TestCoalescingEndsWithThePeriod(t *testing.T) {
 	}
 }
 
-// A timer that fires while an event is being added has been replaced by the time it gets the lock, so it releases nothing.
+// If a timer fires while an event is being added, a new timer has replaced it before it gets the lock. So it releases
+// nothing.
 func TestCoalescingIgnoresReplacedTimer(t *testing.T) {
 	config := longPeriods()
 	config.UserQuiescentPeriod = time.Millisecond

@@ -86,7 +86,8 @@ func TestSerfsFilters(t *testing.T) {
 	}
 }
 
-// Expressions of a few hundred bytes whose programs would have millions of steps.
+// A filter is refused if its expression has only a few hundred bytes but would compile to a program of millions of
+// steps.
 func TestTooLargeExpressionsAreRefused(t *testing.T) {
 	tags := map[string]string{"role": strings.Repeat("x", 500)}
 	for expression, want := range map[string]bool{

@@ -21,7 +21,7 @@ const (
 	ProtocolVersionMax       = 5
 )
 
-// ProtocolVersionMap has the version of memberlist's protocol for each version of Serf's.
+// ProtocolVersionMap maps each version of Serf's protocol to the version of memberlist's protocol that it uses.
 var ProtocolVersionMap map[uint8]uint8
 
 func init() {
@@ -42,8 +42,9 @@ const (
 	maxNameLength     = 128
 )
 
-// MergeDelegate may refuse to merge with another cluster. NotifyMerge gets the members that would join; an error cancels the merge. A
-// single node that joins by gossip is passed alone.
+// MergeDelegate may refuse to merge with another cluster. The node calls NotifyMerge with the members that would join;
+// if NotifyMerge returns an error, they don't join. If a single node joins by gossip, NotifyMerge receives only that
+// node.
 type MergeDelegate interface {
 	NotifyMerge([]*Member) error
 }
@@ -53,13 +54,14 @@ type Config struct {
 	// NodeName is the name of this node, unique in the cluster and at most 128 bytes long. If it is empty, the host's name is used.
 	NodeName string
 
-	// Tags are this node's tags, which all members see. Encoded, they have at most 512 bytes, including their names. At protocol 2 only the
-	// tag role is sent.
+	// Tags are this node's tags, which all members see. The encoded tags have at most 512 bytes, including their names.
+	// With protocol version 2, the node sends only the tag named role.
 	Tags map[string]string
 
-	// EventCh receives member events, user events and queries, in one order. If it is nil, no events are delivered. An event that was
-	// handed out is offered until the program receives it: if the program is slow, the node accepts nothing more from the network, and no
-	// event is dropped. If 4,096 events are waiting and a member changes repeatedly, only its last change is delivered.
+	// EventCh receives member events, user events and queries, in one order. If it is nil, the node delivers no events.
+	// The node offers each event that was handed out until the program receives it. If the program is slow, the node
+	// accepts nothing more from the network, and drops no event. If 4,096 events are waiting and a member changes
+	// repeatedly, the node delivers only that member's last change.
 	EventCh chan<- Event
 
 	// ProtocolVersion is the version of Serf's protocol to speak, from 2 to 5.
@@ -72,16 +74,18 @@ type Config struct {
 	// LeavePropagateDelay is how long Leave waits after its message was sent, so that the other nodes receive it.
 	LeavePropagateDelay time.Duration
 
-	// Member events are held for CoalescePeriod, or until none has arrived for QuiescentPeriod, and are then delivered together by type.
-	// With a period of 0 each is delivered at once. User events that may be coalesced are held in the same way by UserCoalescePeriod and
-	// UserQuiescentPeriod; of one name, those of the largest time are delivered. Events that are held when the process is killed are lost.
+	// The node holds member events for CoalescePeriod, or until none has arrived for QuiescentPeriod, and then delivers
+	// one event for each type. If a period is 0, it delivers each member event at once. UserCoalescePeriod and
+	// UserQuiescentPeriod do the same for user events that may be coalesced: for each name, the node delivers only the
+	// events with the largest time. If the process is killed, the held events are lost.
 	CoalescePeriod      time.Duration
 	QuiescentPeriod     time.Duration
 	UserCoalescePeriod  time.Duration
 	UserQuiescentPeriod time.Duration
 
-	// ReapInterval is how often the node forgets members that failed more than ReconnectTimeout ago, or left more than TombstoneTimeout
-	// ago. ReconnectInterval is how often the node tries to join a failed member again. An interval of 0 means that of DefaultConfig.
+	// ReapInterval is how often the node forgets members that failed more than ReconnectTimeout ago, or left more than
+	// TombstoneTimeout ago. ReconnectInterval is how often the node tries to join a failed member again. If an interval
+	// is 0, the node uses that of DefaultConfig.
 	ReapInterval      time.Duration
 	ReconnectInterval time.Duration
 	ReconnectTimeout  time.Duration
@@ -90,53 +94,57 @@ type Config struct {
 	// FlapTimeout is how soon a failed member has to be alive again to be counted as flapping in the metrics.
 	FlapTimeout time.Duration
 
-	// QueueCheckInterval is how often the packets that wait to be gossiped are counted; if there are at least QueueDepthWarning, the node
-	// logs a warning. A queue has at most MaxQueueDepth packets: of more, those that were sent most often are dropped. If MinQueueDepth
-	// isn't 0, the limit is instead MinQueueDepth or twice the number of members, whichever is larger. An interval of 0 means that of
+	// QueueCheckInterval is how often the node counts the packets that wait to be gossiped. If a queue has at least
+	// QueueDepthWarning packets, the node logs a warning. A queue has at most MaxQueueDepth packets; if there are more,
+	// the node drops the ones that it has sent most often. If MinQueueDepth isn't 0, the limit is instead MinQueueDepth
+	// or twice the number of members, whichever is larger. If QueueCheckInterval is 0, the node uses the interval of
 	// DefaultConfig.
 	QueueCheckInterval time.Duration
 	QueueDepthWarning  int
 	MaxQueueDepth      int
 	MinQueueDepth      int
 
-	// RecentIntentTimeout is how long a join or leave intent is kept for a node that isn't a member yet. It is also how long a member that is
-	// alive may be seen as leaving, if it doesn't refute its last leave intent.
+	// RecentIntentTimeout is how long the node keeps a join or leave intent of a node that isn't a member yet. It is
+	// also how long the node shows a member as leaving, if that member is still alive and doesn't refute its last leave
+	// intent.
 	RecentIntentTimeout time.Duration
 
-	// EventBuffer and QueryBuffer are how many Lamport times of events, and of queries, are remembered: 1 to 65,536. Older ones are
-	// ignored.
+	// EventBuffer is how many Lamport times of events the node remembers, and QueryBuffer how many of queries: 1 to
+	// 65,536 each. The node ignores events and queries with older times.
 	EventBuffer int
 	QueryBuffer int
 
-	// QueryTimeoutMult is the factor of the default timeout of a query: the gossip interval times this factor times the logarithm of the
-	// number of nodes.
+	// QueryTimeoutMult is a factor of the default timeout of a query. The timeout is the gossip interval, times this
+	// factor, times the logarithm of the number of nodes.
 	QueryTimeoutMult int
 
-	// QueryResponseSizeLimit and QuerySizeLimit are the maximum number of bytes of the packet of a response, and of a query, that this node
-	// sends: at most 9,216. 0 means 1,024.
+	// QueryResponseSizeLimit is the maximum number of bytes of the packet of a response that this node sends, and
+	// QuerySizeLimit that of a query. Each may be at most 9,216, and 0 means 1,024.
 	QueryResponseSizeLimit int
 	QuerySizeLimit         int
 
-	// MemberlistConfig configures memberlist; nil means memberlist's configuration for a LAN. This package sets its Name, its versions,
-	// Delegate, Events and Conflict, also Ping unless coordinates are disabled, and Merge and Alive if Merge below is set. It replaces its
-	// Logger and LogOutput by the logger below.
+	// MemberlistConfig configures memberlist; nil means memberlist's configuration for a LAN. In its copy of that
+	// configuration, this package sets Name, the protocol versions, Delegate, Events and Conflict. It also sets Ping
+	// unless coordinates are disabled, and Merge and Alive if the field Merge below is set. It replaces Logger and
+	// LogOutput by the logger below.
 	MemberlistConfig *memberlist.Config
 
 	// The node logs to Logger. If that is nil, it logs to LogOutput, and if that is nil too, to standard error.
 	LogOutput io.Writer
 	Logger    *log.Logger
 
-	// SnapshotPath is the file that keeps the clocks and the members. The line of each event is flushed to it before the event is
-	// delivered, and Create joins one of the members that the file names. Without a path all is kept in memory, and the next life may hand
-	// out an event again. Every ten seconds the node checks the file: if it was removed, replaced or truncated, the node ends with
-	// ErrSnapshotChanged.
+	// SnapshotPath is the path of the snapshot, the file that keeps the clocks and the members. The node flushes the
+	// line of each event to the snapshot before it delivers the event, and Create joins one of the members that the
+	// snapshot names. Without a path, the node keeps everything in memory, and its next life may hand out an event
+	// again. Every ten seconds the node checks the file. If the file was removed, replaced or truncated, the node ends
+	// with ErrSnapshotChanged.
 	SnapshotPath string
 
 	// RejoinAfterLeave makes Create join the members of the file even after a leave.
 	RejoinAfterLeave bool
 
-	// EnableNameConflictResolution makes the node ask the cluster which node has its name if another node claims it too. The one that fewer
-	// members know ends.
+	// EnableNameConflictResolution makes the node ask the cluster which node has its name, if another node claims the
+	// same name. The node that fewer members know ends.
 	EnableNameConflictResolution bool
 
 	// DisableCoordinates turns off network coordinates, which estimate the round-trip time between nodes.
@@ -148,36 +156,41 @@ type Config struct {
 	// Merge, if it isn't nil, may refuse nodes that are about to join.
 	Merge MergeDelegate
 
-	// UserEventSizeLimit is the maximum number of bytes of the packet of an event that is fired here: its name, its payload, and 24 to 32
-	// bytes around them. It is at most 9,216.
+	// UserEventSizeLimit is the maximum number of bytes of the packet of an event that this node fires: the name, the
+	// payload, and 24 to 32 bytes around them. The limit is at most 9,216.
 	UserEventSizeLimit int
 
-	// KeepEvents keeps events and queries in the file too, so that a restart continues with the window of the previous life. Serf has no
-	// such field.
+	// KeepEvents makes the node keep events and queries in the snapshot too, so that a restart continues with the
+	// window of the previous life. Serf has no such field.
 	KeepEvents bool
 
-	// KeepEventsSize is the maximum number of bytes of the file that the kept events may use: 1 MiB to 1 GiB. 0 means 32 MiB. Half of it is
-	// divided equally among the times of EventBuffer, and the other half is for any time. An event for which there is no room is dropped
-	// before the proved agent receives it. Serf has no such field.
+	// KeepEventsSize is the maximum number of bytes that the kept events may use in the snapshot: 1 MiB to 1 GiB. 0
+	// means 32 MiB. Half of these bytes are divided equally among the times of EventBuffer, and any time may use the
+	// other half. If there is no room for an event, the node drops it before the proved agent receives it. Serf has no
+	// such field.
 	KeepEventsSize int
 
-	// TrackHandlers keeps in the file which events are open: handed out, and not done. The program calls Begin before it handles a user event
-	// and Done afterwards, and after a start Unfinished returns what was open. It needs a SnapshotPath and an EventCh, and implies KeepEvents.
-	// Serf has no such field.
+	// TrackHandlers makes the node record in the snapshot which events are open. An event is open from the moment when
+	// the node hands it out until the program calls Done. The program calls Begin before it handles a user event and
+	// Done afterwards; after a restart, Unfinished returns the events that were open. TrackHandlers requires a
+	// SnapshotPath and an EventCh, and implies KeepEvents. Serf has no such field.
 	TrackHandlers bool
 
-	// MaxOpenEvents is the number of open events at which the node accepts nothing more from the network and fires nothing, as for a slow
-	// reader: 1 to 65,536, and 16,384 if it is 0. One burst or one state may exceed it. Serf has no such field.
+	// MaxOpenEvents is the maximum number of open events: 1 to 65,536. 0 means 16,384. While so many events are open,
+	// the node accepts nothing more from the network and fires nothing, as if the reader of EventCh were slow. One
+	// burst or one state may exceed the limit. Serf has no such field.
 	MaxOpenEvents int
 
-	// Guard has the limits for what memberlist reads from the network, and the maximum number of known members (4,096 if it is 0). Each
-	// other limit that is 0 is that of guard.Defaults. If MemberlistConfig has a Transport, the guard is around that one, and PacketBytes is
-	// at least UDPBufferSize unless it is set. A Transport that is a guard already keeps its own limits. Serf has no such field.
+	// Guard has the limits for the packets and streams that memberlist reads from the network, and the maximum number
+	// of known members (4,096 if it is 0). For each other limit that is 0, the guard uses that of guard.Defaults. If
+	// MemberlistConfig has a Transport, the guard wraps that transport, and a PacketBytes of 0 means at least
+	// UDPBufferSize. If that Transport is a guard already, it keeps its own limits. Serf has no such field.
 	Guard guard.Settings
 
-	// Wrap, if it isn't nil, is called with the proved agent before its first call, and the node calls the agent that Wrap returns. A
-	// program can record the calls this way. Serf has no such field.
-	Wrap func(agent Agent, settings serfagent.Settings) (Agent, error)
+	// Wrap, if it isn't nil, returns the agent that the node calls in place of the proved agent. The node calls Wrap
+	// once, before the first call of the agent. A program can record all calls of the agent this way. Serf has no such
+	// field.
+	Wrap func(agent Agent, opening Opening) (Agent, error)
 
 	// snapshotCheckInterval is how often the file is checked, and timeOfDay returns the time of day; tests replace both.
 	snapshotCheckInterval time.Duration

@@ -13,13 +13,14 @@ import (
 	"github.com/hashicorp/memberlist"
 )
 
-// cutTransport is a transport that can be cut off: then it neither sends nor accepts anything.
+// cutTransport is a transport that a test can cut off. It then neither sends nor accepts anything.
 type cutTransport struct {
 	*memberlist.NetTransport
 	isCut   atomic.Bool
 	streams chan net.Conn
 }
 
+// newCutTransport returns a transport on loopback that isn't cut off yet.
 func newCutTransport(t *testing.T) *cutTransport {
 	t.Helper()
 	inner, err := memberlist.NewNetTransport(&memberlist.NetTransportConfig{BindAddrs: []string{"127.0.0.1"}, Logger: log.New(io.Discard, "", 0)})
@@ -72,11 +73,11 @@ func (c *cutTransport) DialAddressTimeout(addr memberlist.Address, timeout time.
 type handlerRuns struct {
 	mu     sync.Mutex
 	counts map[string]int
-	// isStopped: no handler begins.
+	// isStopped: no more handlers begin.
 	isStopped atomic.Bool
 }
 
-// run runs the handler of an event as a program does that tracks handlers.
+// run runs the handler of an event, as a program that tracks handlers does.
 func (h *handlerRuns) run(node *Serf, event UserEvent) {
 	if h.isStopped.Load() || node.Begin(event) != nil {
 		return
@@ -87,13 +88,15 @@ func (h *handlerRuns) run(node *Serf, event UserEvent) {
 	_ = node.Done(event)
 }
 
+// count returns how often the handler of an event ran.
 func (h *handlerRuns) count(name string) int {
 	h.mu.Lock()
 	defer h.mu.Unlock()
 	return h.counts[name]
 }
 
-// startHandling starts a node whose handlers are tracked. Those that never began in its earlier lives run first.
+// startHandling starts a node that tracks handlers. It first runs the handlers that never began in the node's earlier
+// lives.
 func (h *handlerRuns) startHandling(t *testing.T, name, folder string, opts ...option) *testNode {
 	t.Helper()
 	var node atomic.Pointer[Serf]
@@ -115,8 +118,9 @@ func (h *handlerRuns) startHandling(t *testing.T, name, folder string, opts ...o
 	return n
 }
 
-// A confirmed firing survives its firer. No packet with the event had left the node when it was killed, and no handler had run there. After
-// the restart the node sends the event on, and its handler runs once on each node.
+// A confirmed firing survives a kill of the node that fired it. When that node is killed, it has sent no packet with
+// the event, and has run no handler. After its restart, the node sends the event, and the handler runs once on each
+// node.
 func TestConfirmedFiringSurvivesItsFirer(t *testing.T) {
 	folder, network := t.TempDir(), newCutTransport(t)
 	runs := map[string]*handlerRuns{}
@@ -154,7 +158,7 @@ func TestConfirmedFiringSurvivesItsFirer(t *testing.T) {
 	}
 	a.join(c)
 	eventually(t, "the handler runs on all nodes", func() bool { return ran("confirmed", 1, 1, 1) })
-	// (an event that is fired now travels as far as a second copy of the confirmed one would)
+	// (if a second copy of the confirmed event existed, it would arrive before an event that is fired now)
 	b.fireNew("after", nil)
 	eventually(t, "a later event runs on all nodes", func() bool { return ran("after", 1, 1, 1) })
 	if !ran("confirmed", 1, 1, 1) || !ran("before", 1, 1, 1) {

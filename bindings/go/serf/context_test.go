@@ -9,7 +9,7 @@ import (
 	"time"
 )
 
-// A firing with a context is like one without it, if the context does not end.
+// FireContext behaves like Fire if the context does not end.
 func TestFireContext(t *testing.T) {
 	a := startNode(t, "a", t.TempDir())
 	ctx, cancel := context.WithCancel(context.Background())
@@ -34,23 +34,23 @@ func TestFireContext(t *testing.T) {
 	}
 }
 
-// If a firing's context ends while the firing waits for the flush of others, it is not fired. If its own flush is running, the caller learns
-// that the event may have been fired, and may use the payload's memory again.
+// If the context ends while the firing waits for the flush of other firings, the event is not fired. If the context
+// ends during the event's own flush, the caller receives an UncertainError, and may reuse the payload's memory.
 func TestFireContextDuringFlush(t *testing.T) {
 	f := &fakeAgent{flushGate: make(chan struct{})}
 	a := startNode(t, "a", "", withAgent(f))
-	given := make(chan error, 1)
+	results := make(chan error, 1)
 	payload := []byte("first")
 	ctx, cancel := context.WithCancel(context.Background())
 	go func() {
 		_, err := a.FireContext(ctx, "x", payload, false)
-		given <- err
+		results <- err
 	}()
 	eventually(t, "the agent is busy", f.isBusy)
 	cancel()
 	promptly(t, "a firing whose flush is running", func() {
 		var uncertain *UncertainError
-		if err := <-given; !errors.As(err, &uncertain) || !errors.Is(err, context.Canceled) {
+		if err := <-results; !errors.As(err, &uncertain) || !errors.Is(err, context.Canceled) {
 			t.Error(err)
 		}
 	})
@@ -58,12 +58,12 @@ func TestFireContextDuringFlush(t *testing.T) {
 	ctx, cancel = context.WithCancel(context.Background())
 	go func() {
 		_, err := a.FireContext(ctx, "x", []byte("second"), false)
-		given <- err
+		results <- err
 	}()
 	eventually(t, "the second one waits", func() bool { return a.waitingFirings() == 1 })
 	cancel()
 	promptly(t, "a firing that waits for the flush of others", func() {
-		if err := <-given; err != context.Canceled {
+		if err := <-results; err != context.Canceled {
 			t.Error(err)
 		}
 	})
@@ -72,7 +72,7 @@ func TestFireContextDuringFlush(t *testing.T) {
 	eventually(t, "the others are delivered", func() bool { return strings.Join(a.payloads("x"), " ") == "first third" })
 }
 
-// A firing for which there is no room is given up when its context ends.
+// If there is no room for a firing, FireContext returns when its context ends.
 func TestFireContextWithoutRoom(t *testing.T) {
 	a := startNode(t, "a", "", withAgent(&fakeAgent{}))
 	a.pauseReading(true)
@@ -88,7 +88,7 @@ func TestFireContextWithoutRoom(t *testing.T) {
 	a.pauseReading(false)
 }
 
-// A join with a context is like one without it, and tries all addresses.
+// If the context does not end, JoinContext behaves like Join and tries all addresses.
 func TestJoinContext(t *testing.T) {
 	a, b, c := startNode(t, "a", ""), startNode(t, "b", ""), startNode(t, "c", "")
 	ctx, cancel := context.WithCancel(context.Background())
@@ -112,7 +112,7 @@ func TestJoinContext(t *testing.T) {
 	}
 }
 
-// A join is given up when its context ends, even if the other side never answers, and no further address is tried.
+// JoinContext returns when its context ends, even if the other side never answers, and tries no further address.
 func TestJoinContextWithoutAnswer(t *testing.T) {
 	silent, err := net.Listen("tcp", "127.0.0.1:0")
 	must(t, err)
@@ -129,7 +129,7 @@ func TestJoinContextWithoutAnswer(t *testing.T) {
 	if took := time.Since(began); took >= a.config.MemberlistConfig.TCPTimeout {
 		t.Error("it waited for", took)
 	}
-	// (that join ends when the connection does, or by memberlist's own timeout)
+	// (memberlist's attempt ends when the connection is closed, or after memberlist's own timeout)
 	check(t, silent.Close())
 	eventually(t, "the silent one is given up", func() bool { return a.ignoringJoins.Load() == 0 })
 	if a.NumNodes() != 1 {

@@ -12,14 +12,15 @@ import (
 	"kitchenrue.example/guard/msgpack"
 )
 
-// PingVersion is the first byte of the payload of an ack of memberlist's pings. The sender's coordinate follows it.
+// PingVersion is the first byte of the payload that a node sends with its ack of a memberlist ping. The node's
+// coordinate follows this byte.
 const PingVersion = 1
 
-// maxPingPayload is the maximum number of bytes of such a payload. A coordinate has fewer than 200 bytes.
+// maxPingPayload is the maximum length of that payload in bytes. An encoded coordinate has fewer than 200 bytes.
 const maxPingPayload = 1024
 
-// coordinates are the network coordinates of the nodes, estimated from the round-trip times of pings: this node's, and the last known of
-// the others. A nil pointer means that coordinates are disabled.
+// coordinates has this node's network coordinate and the last known coordinates of the other nodes. The nodes estimate
+// them from the round-trip times of pings. A nil pointer means that coordinates are disabled.
 type coordinates struct {
 	client *coordinate.Client
 
@@ -27,6 +28,7 @@ type coordinates struct {
 	cached map[string]*coordinate.Coordinate
 }
 
+// newCoordinates returns this node's coordinate, or nil if coordinates are disabled.
 func newCoordinates(c *Config) (*coordinates, error) {
 	if c.DisableCoordinates {
 		return nil, nil
@@ -86,7 +88,7 @@ func decodeCoordinate(payload []byte) (*coordinate.Coordinate, error) {
 	return &coord, decodeWhole(payload, PingVersion, &coord)
 }
 
-// update adjusts this node's coordinate by that of another node, and keeps the other node's.
+// update adjusts this node's coordinate to the coordinate of another node, and keeps the other node's coordinate.
 func (p *coordinates) update(self, other string, coord *coordinate.Coordinate, rtt time.Duration) error {
 	before := p.client.GetCoordinate()
 	own, err := p.client.Update(other, coord, rtt)

@@ -8,7 +8,7 @@ import (
 	"kitchenrue.example/guard/msgpack"
 )
 
-// encode appends the MessagePack of a value to a prefix, in Serf's form: texts and bytes are both raw.
+// encode appends a value to a prefix, encoded as MessagePack in Serf's form: texts and bytes both become raw values.
 func encode(value interface{}, prefix ...byte) []byte {
 	buffer := bytes.NewBuffer(prefix)
 	if err := codec.NewEncoder(buffer, &codec.MsgpackHandle{}).Encode(value); err != nil {
@@ -18,8 +18,9 @@ func encode(value interface{}, prefix ...byte) []byte {
 	return buffer.Bytes()
 }
 
-// decodeFirst decodes the value of a message of this type into a Go value, and returns the bytes after it. It first skips over the value,
-// so a length in the message that exceeds the message is refused before anything is allocated.
+// decodeFirst decodes the value at the start of a message of this type into a Go value, and returns the bytes that
+// follow the value. Before it decodes the value, it scans it once without decoding. So it refuses a length that exceeds
+// the message before anything is allocated.
 func decodeFirst(message []byte, kind byte, into interface{}) ([]byte, error) {
 	if len(message) == 0 || message[0] != kind {
 		return nil, msgpack.ErrKind
@@ -31,7 +32,7 @@ func decodeFirst(message []byte, kind byte, into interface{}) ([]byte, error) {
 	return d.Data[d.At:], codec.NewDecoderBytes(d.Data[:d.At], &codec.MsgpackHandle{}).Decode(into)
 }
 
-// decodeWhole is decodeFirst for a message that ends with the value.
+// decodeWhole is decodeFirst, but returns an error if bytes follow the value.
 func decodeWhole(message []byte, kind byte, into interface{}) error {
 	rest, err := decodeFirst(message, kind, into)
 	if err == nil && len(rest) > 0 {
@@ -45,8 +46,9 @@ type decoder struct{ msgpack.Reader }
 
 func newDecoder(data []byte) *decoder { return &decoder{msgpack.Reader{Data: data}} }
 
-// header reads the header of a value of one of two kinds, and returns the value or its length. For nil it returns 0.
-func (d *decoder) header(expected, alternative msgpack.Kind) uint64 {
+// readHeader reads the header of a value that must have one of two kinds. It returns the number itself, or the length of a
+// text, an array or a map. For nil it returns 0.
+func (d *decoder) readHeader(expected, alternative msgpack.Kind) uint64 {
 	found, value := d.Next()
 	if found != expected && found != alternative && found != msgpack.Nil {
 		d.Fail(msgpack.ErrKind)
@@ -55,13 +57,15 @@ func (d *decoder) header(expected, alternative msgpack.Kind) uint64 {
 	return value
 }
 
-// mapHeader returns the number of pairs of a map, and arrayHeader the number of values of an array.
-func (d *decoder) mapHeader() int   { return d.Count(d.header(msgpack.Map, msgpack.Map), 2) }
-func (d *decoder) arrayHeader() int { return d.Count(d.header(msgpack.Array, msgpack.Array), 1) }
+// readMapHeader returns the number of pairs of a map, and readArrayHeader the number of values of an array.
+func (d *decoder) readMapHeader() int { return d.Count(d.readHeader(msgpack.Map, msgpack.Map), 2) }
+func (d *decoder) readArrayHeader() int {
+	return d.Count(d.readHeader(msgpack.Array, msgpack.Array), 1)
+}
 
-// raw reads a text, and unsigned a non-negative integer.
-func (d *decoder) raw() []byte      { return d.Take(int(d.header(msgpack.Text, msgpack.Bytes))) }
-func (d *decoder) unsigned() uint64 { return d.header(msgpack.Number, msgpack.Number) }
+// readText reads a text, and readUnsigned a non-negative integer.
+func (d *decoder) readText() []byte     { return d.Take(int(d.readHeader(msgpack.Text, msgpack.Bytes))) }
+func (d *decoder) readUnsigned() uint64 { return d.readHeader(msgpack.Number, msgpack.Number) }
 
 // finish returns the decoder's error, or an error if bytes follow the value.
 func (d *decoder) finish() error {
@@ -71,10 +75,11 @@ func (d *decoder) finish() error {
 	return d.Err
 }
 
-// eachField reads a map. It calls readField with each key; readField reads the value, or returns false and the value is skipped.
-func (d *decoder) eachField(readField func(key string) bool) {
-	for pairs := d.mapHeader(); pairs > 0 && d.Err == nil; pairs-- {
-		if key := string(d.raw()); d.Err == nil && !readField(key) {
+// readMap reads a map and calls readField with each key. If readField returns true, it has read the value; if it
+// returns false, readMap skips the value.
+func (d *decoder) readMap(readField func(key string) bool) {
+	for pairs := d.readMapHeader(); pairs > 0 && d.Err == nil; pairs-- {
+		if key := string(d.readText()); d.Err == nil && !readField(key) {
 			d.Skip()
 		}
 	}

@@ -20,9 +20,10 @@ var (
 	_ memberlist.AliveDelegate    = delegate{}
 )
 
-// localStateWait is how long memberlist may wait for a state: longer than a flush of most disks, and a quarter of the shortest TCPTimeout
-// of memberlist's own configurations. If no new state is ready by then, the previous one is sent. A node that joins by an old state may
-// fire at times that are too old for the other nodes, until it receives newer ones.
+// localStateWait is how long memberlist may wait for a state: longer than a flush of most disks, and a quarter of the
+// shortest TCPTimeout of memberlist's own configurations. If no new state is ready by then, memberlist sends the
+// previous one. A node that joins with an old state may fire events at times that are too old for the other nodes,
+// until it receives newer times.
 const localStateWait = 250 * time.Millisecond
 
 // NodeMeta returns the encoded tags.
@@ -47,8 +48,9 @@ func (d delegate) MergeRemoteState(state []byte, isJoin bool) {
 	}
 }
 
-// GetBroadcasts returns the packets to gossip now: intents first, since they are few, then queries, then events. If packets of a later kind
-// are waiting, an earlier kind gets at most half of the remaining room, so that a flood of one kind does not block the others.
+// GetBroadcasts returns the packets to gossip now: first intents, since they are few, then queries, then events. If
+// packets of a later kind are waiting, an earlier kind may use at most half of the remaining bytes, so that a flood of
+// one kind does not block the others.
 func (d delegate) GetBroadcasts(overhead, limit int) [][]byte {
 	var chosen [][]byte
 	queues := []*memberlist.TransmitLimitedQueue{d.Serf.intents.moveIncoming(), d.Serf.queries.moveIncoming(), d.Serf.events.moveIncoming()}
@@ -60,8 +62,9 @@ func (d delegate) GetBroadcasts(overhead, limit int) [][]byte {
 			}
 		}
 		packets := queue.GetBroadcasts(overhead, room)
-		if len(packets) == 0 && room < limit && queue.NumQueued() > 0 && d.longTurns.Add(1)%2 == 0 {
-			// (the queue's packets are longer than half of the room, so every other time it gets all of it)
+		if len(packets) == 0 && room < limit && queue.NumQueued() > 0 && d.longPacketTurns.Add(1)%2 == 0 {
+			// (all packets of this queue are longer than half of the remaining bytes, so every other time the queue may
+			// use all of them)
 			packets = queue.GetBroadcasts(overhead, limit)
 		}
 		for _, packet := range packets {
@@ -92,7 +95,7 @@ func (d delegate) LocalState(bool) []byte {
 	return d.lastState
 }
 
-// serveStates makes the states that memberlist requests.
+// serveStates encodes this node's state whenever memberlist requests it.
 func (s *Serf) serveStates() {
 	for {
 		select {
@@ -113,7 +116,8 @@ func (s *Serf) serveStates() {
 	}
 }
 
-// memberOf returns what memberlist knows of a node. It copies the address, since the node belongs to memberlist.
+// memberOf returns the member for a node of memberlist. It copies the address, since memberlist owns the node and may
+// change it.
 func (s *Serf) memberOf(node *memberlist.Node) Member {
 	tags, err := decodeTags(node.Meta)
 	if err != nil {
@@ -126,16 +130,16 @@ func (s *Serf) memberOf(node *memberlist.Node) Member {
 	}
 }
 
-// NotifyJoin receives a node that is alive.
+// NotifyJoin is called by memberlist when a node has joined or is alive again.
 func (d delegate) NotifyJoin(node *memberlist.Node) { d.members.memberJoined(d.memberOf(node)) }
 
-// NotifyLeave receives a node that left or failed.
+// NotifyLeave is called by memberlist when a node has left or failed.
 func (d delegate) NotifyLeave(node *memberlist.Node) { d.members.memberLeft(node.Name) }
 
-// NotifyUpdate receives a node whose tags changed.
+// NotifyUpdate is called by memberlist when a node's tags have changed.
 func (d delegate) NotifyUpdate(node *memberlist.Node) { d.members.memberUpdated(d.memberOf(node)) }
 
-// NotifyConflict receives two nodes with the same name.
+// NotifyConflict is called by memberlist when two nodes have the same name.
 func (d delegate) NotifyConflict(existing, other *memberlist.Node) {
 	if existing.Name != d.config.NodeName {
 		d.log.Printf("[WARN] serf: Name conflict for '%s' both %s and %s are claiming",
@@ -167,10 +171,10 @@ func (d delegate) NotifyAlive(peer *memberlist.Node) error {
 	return d.config.Merge.NotifyMerge([]*Member{&member})
 }
 
-// broadcast is a packet to gossip. It invalidates no other broadcast.
+// broadcast is a packet to gossip. A broadcast never replaces another one in memberlist's queue.
 type broadcast struct {
 	packet []byte
-	// sent, if it isn't nil, is closed when the packet was sent as often as it is to be sent.
+	// sent, if it isn't nil, is closed when memberlist has sent the packet for the last time.
 	sent chan struct{}
 }
 
@@ -187,19 +191,20 @@ func (b *broadcast) Finished() {
 // UniqueBroadcast marks the broadcast as unique, so memberlist does not search its queue for broadcasts that it invalidates.
 func (b *broadcast) UniqueBroadcast() {}
 
-// broadcastQueue has the packets that wait to be gossiped. Packets that were added since memberlist last requested some wait in incoming:
-// to insert one into memberlist's queue takes longer than everything else that is done to fire an event.
+// broadcastQueue has the packets that wait to be gossiped. A new packet first waits in incoming, until memberlist next
+// requests packets, because inserting it into memberlist's queue takes longer than all other steps of firing an event.
 type broadcastQueue struct {
 	serf *Serf
 
 	mu       sync.Mutex
 	incoming []*broadcast
-	// moving is held while the incoming packets are moved to memberlist's queue.
-	moving sync.Mutex
+	// moveMu is held while the incoming packets are moved to memberlist's queue.
+	moveMu sync.Mutex
 	queue  memberlist.TransmitLimitedQueue
 }
 
-// add queues packets. Packets that are too long to be sent are dropped, and so are the oldest incoming ones if there are too many.
+// add queues packets. It drops packets that are too long to be sent, and the oldest incoming packets if there are too
+// many.
 func (b *broadcastQueue) add(packets ...broadcast) {
 	max := b.serf.maxQueued()
 	b.mu.Lock()
@@ -223,11 +228,11 @@ func (b *broadcastQueue) drop(packet *broadcast) {
 	b.serf.dropped.Add(1)
 }
 
-// moveIncoming moves the incoming packets to memberlist's queue and returns that queue. If it has too many packets, those that were sent
-// most often are dropped.
+// moveIncoming moves the incoming packets to memberlist's queue and returns that queue. If the queue then has too many
+// packets, moveIncoming drops the ones that were sent most often.
 func (b *broadcastQueue) moveIncoming() *memberlist.TransmitLimitedQueue {
-	b.moving.Lock()
-	defer b.moving.Unlock()
+	b.moveMu.Lock()
+	defer b.moveMu.Unlock()
 	b.mu.Lock()
 	incoming := b.incoming
 	b.incoming = nil
@@ -246,7 +251,8 @@ func (b *broadcastQueue) moveIncoming() *memberlist.TransmitLimitedQueue {
 // NumQueued returns how many packets are waiting.
 func (b *broadcastQueue) NumQueued() int { return b.moveIncoming().NumQueued() }
 
-// queueBroadcast queues a packet; sent may be nil.
+// queueBroadcast queues a packet to gossip. sent may be nil; otherwise it is closed when memberlist has sent the packet
+// for the last time.
 func (s *Serf) queueBroadcast(queue *broadcastQueue, packet []byte, sent chan struct{}) {
 	queue.add(broadcast{packet, sent})
 }

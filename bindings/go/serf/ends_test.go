@@ -13,7 +13,8 @@ import (
 	"kitchenrue.example/serfagent"
 )
 
-// failureCauses make a node call each method of its agent that may fail. (It calls CloseDue every second anyway.)
+// failureCauses has a function for each method of the agent that may fail. The function makes a node call that method.
+// (A node calls CloseDue every second anyway.)
 var failureCauses = map[string]func(t *testing.T, a *testNode){
 	"TakeAll":         func(t *testing.T, a *testNode) { a.delegate().NotifyMsg([]byte("\x03\x80")) },
 	"Merge":           func(t *testing.T, a *testNode) { a.delegate().MergeRemoteState([]byte("\x02\x80"), false) },
@@ -24,7 +25,7 @@ var failureCauses = map[string]func(t *testing.T, a *testNode){
 	"CloseDue":        func(t *testing.T, a *testNode) {},
 }
 
-// withSnapshotFile adds a file for the members to a node over a test's agent.
+// withSnapshotFile adds a snapshot file for the members to a node that uses a test's agent.
 func withSnapshotFile(t *testing.T, path string) option {
 	t.Helper()
 	writeFile(t, path, "")
@@ -33,7 +34,7 @@ func withSnapshotFile(t *testing.T, path string) option {
 	return func(o *nodeOptions) { o.file = file }
 }
 
-// If the agent is closed, whichever call says so, the node ends, and Fault has the reason.
+// If any call returns an error that means that the agent is closed, the node ends, and Fault returns the reason.
 func TestEachFileErrorEndsNode(t *testing.T) {
 	for call, cause := range failureCauses {
 		for _, fault := range []error{serfagent.Empty, fmt.Errorf("test: %w", serfagent.ErrFull)} {
@@ -52,7 +53,8 @@ func TestEachFileErrorEndsNode(t *testing.T) {
 	}
 }
 
-// If memory runs out, the node continues, and processes what arrives later. What a merge had accepted before is handed out.
+// If memory runs out, the node continues and processes later packets. The node hands out the events that a merge had
+// accepted before memory ran out.
 func TestNodeSurvivesOutOfMemory(t *testing.T) {
 	for call, cause := range failureCauses {
 		path, logs := filepath.Join(t.TempDir(), "file"), &logBuffer{}
@@ -88,10 +90,10 @@ func TestFailingIntentsDoNotDelayEvents(t *testing.T) {
 	a := startNode(t, "a", "", withAgent(f))
 	word := intentPacket(t, 9, "b", false)
 	f.onObserve = func(uint64) { a.delegate().NotifyMsg(word) }
-	a.order.Lock()
+	a.agentMu.Lock()
 	a.delegate().NotifyMsg(word)
 	a.delegate().NotifyMsg([]byte("\x03\x80"))
-	a.order.Unlock()
+	a.agentMu.Unlock()
 	eventually(t, "the event is delivered", func() bool { return len(a.payloads("fake")) == 1 })
 }
 
@@ -131,13 +133,13 @@ func TestShutdown(t *testing.T) {
 // Firings that wait when the node ends are refused.
 func TestShutdownRefusesWaitingFirings(t *testing.T) {
 	a, results := startNode(t, "a", "", withAgent(&fakeAgent{})), make(chan error)
-	a.order.Lock()
+	a.agentMu.Lock()
 	for i := 0; i < 3; i++ {
 		go func() { results <- a.UserEvent("x", nil, false) }()
 	}
 	eventually(t, "all are waiting", func() bool { return a.waitingFirings() == 3 })
 	a.isEnded = true
-	a.order.Unlock()
+	a.agentMu.Unlock()
 	for i := 0; i < 3; i++ {
 		select {
 		case err := <-results:
@@ -150,7 +152,8 @@ func TestShutdownRefusesWaitingFirings(t *testing.T) {
 	}
 }
 
-// A node of the snapshot that accepts a connection and never answers does not delay Shutdown. Its name is not looked up.
+// If a member of the snapshot accepts a connection and never answers, it does not delay Shutdown. The node does not
+// look up its name.
 func TestShutdownDoesNotWaitForJoin(t *testing.T) {
 	silent, err := net.ListenTCP("tcp", &net.TCPAddr{IP: net.IPv4(127, 0, 0, 1)})
 	must(t, err)
@@ -178,13 +181,13 @@ func TestShutdownWithoutReader(t *testing.T) {
 	if at := strings.Index(text, " events were handed out but never received"); at > 0 {
 		fmt.Sscan(text[strings.LastIndex(text[:at], " "):], &count)
 	}
-	// (the reader may have received one or two before, among them the node's own join)
+	// (the reader may have received one or two events before, such as the node's own join)
 	if count < 9 || count > 11 {
 		t.Error(text)
 	}
 }
 
-// starvedSource has one outcome, which can be read after so many failures.
+// starvedSource has one outcome. Reading it fails as often as failures says, and then succeeds.
 type starvedSource struct{ failures int }
 
 func (h *starvedSource) UnreadOutcomes() (int, error) {
@@ -201,7 +204,7 @@ func (h *starvedSource) Outcomes() ([]serfagent.Outcome, error) {
 	return []serfagent.Outcome{{Err: serfagent.NoMessage}}, nil
 }
 
-// If memory runs out while outcomes are read, they are read again until that succeeds.
+// If memory runs out while a node reads outcomes, the node tries again until it has read all of them.
 func TestOutcomesAreReadEventually(t *testing.T) {
 	for failures := 0; failures < 4; failures++ {
 		if found, err := readOutcomes(&starvedSource{failures}, make([]serfagent.Outcome, 2), serfagent.OutOfMemory); len(found) != 3 || err != serfagent.OutOfMemory {
@@ -220,7 +223,8 @@ func (mergeRunsOut) Merge([]byte, bool) ([]*serfagent.Event, error) {
 	return []*serfagent.Event{{Time: 3, Name: []byte("merged"), Payload: []byte("x"), Coalesce: true}}, serfagent.OutOfMemory
 }
 
-// Events that entered before a merge ran out of memory are handed out, with their mark for coalescing.
+// If a merge runs out of memory, the node hands out the events that the merge accepted before that, with the right
+// value of Coalesce.
 func TestMergeThatRunsOutOfMemory(t *testing.T) {
 	a := startNode(t, "a", "", withAgent(mergeRunsOut{&fakeAgent{}}))
 	a.delegate().MergeRemoteState([]byte("\x02\x80"), false)
@@ -234,7 +238,8 @@ func TestMergeThatRunsOutOfMemory(t *testing.T) {
 	}
 }
 
-// The last line of the log says, as an error, why a node ended by itself: Serf's command exits with status 0 then.
+// If a node ends by itself, the last line of its log is an error that says why. Serf's command exits with status 0 in
+// that case, so the exit status doesn't show it.
 func TestLogSaysWhyNodeEnded(t *testing.T) {
 	logs := &logBuffer{}
 	a := startNode(t, "a", "", withAgent(&fakeAgent{receiveErr: fmt.Errorf("/file: %w", serfagent.ErrFull)}), withLog(logs))

@@ -33,19 +33,19 @@ func (t EventType) String() string {
 	return eventTypes[t]
 }
 
-// Event is what EventCh delivers: a UserEvent, a *Query or a MemberEvent.
+// Event is a value that EventCh delivers: a UserEvent, a *Query or a MemberEvent.
 type Event interface {
 	EventType() EventType
 	String() string
 }
 
-// MemberEvent says what happened to members. It has several members if events are coalesced.
+// MemberEvent reports a change of members. It has several members if events are coalesced.
 type MemberEvent struct {
 	Type    EventType
 	Members []Member
 }
 
-// EventType returns what happened.
+// EventType returns the type of the change.
 func (m MemberEvent) EventType() EventType { return m.Type }
 
 // String panics if the type isn't one of member events, as Serf's does.
@@ -70,15 +70,15 @@ func (u UserEvent) EventType() EventType { return EventUser }
 
 func (u UserEvent) String() string { return "user-event: " + u.Name }
 
-// Query is a query that was handed out here and can be answered.
+// Query is a query that this node handed out and that the program can answer.
 type Query struct {
 	LTime   LamportTime
 	Name    string
 	Payload []byte
 
-	serf   *Serf
-	handed *serfagent.PendingQuery
-	// 1 once the query was answered. Several goroutines may read it.
+	serf    *Serf
+	pending *serfagent.PendingQuery
+	// answered is 1 after the query was answered. Several goroutines may read it.
 	answered uint32
 }
 
@@ -87,12 +87,13 @@ func (q *Query) EventType() EventType { return EventQuery }
 
 func (q *Query) String() string { return "query: " + q.Name }
 
-// Deadline returns the last moment at which the query can be answered, or the zero time for a query that no node handed out.
+// Deadline returns the last moment at which the query can be answered. For a query that no node handed out, it returns
+// the zero time.
 func (q *Query) Deadline() time.Time {
 	if q.serf == nil {
 		return time.Time{}
 	}
-	return q.serf.began.Add(time.Duration(q.handed.Deadline))
+	return q.serf.startTime.Add(time.Duration(q.pending.Deadline))
 }
 
 // Reasons why a query can't be answered.
@@ -102,9 +103,10 @@ var (
 	errHandMade = errors.New("no node handed this query out")
 )
 
-// Respond answers the query once. The packet of the response has at most QueryResponseSizeLimit bytes, including what surrounds the
-// payload. It is refused after the deadline, after an earlier answer, and if 8,192 (maxUnanswered) later queries were handed out since. A
-// response that is refused for its size may be followed by a shorter one. A query that no node handed out can't be answered.
+// Respond answers the query. A query can be answered once. Respond returns an error after the deadline, after an
+// earlier answer, and if the node has handed out 8,192 (maxUnanswered) later queries. The packet of the response has at
+// most QueryResponseSizeLimit bytes, including the bytes around the payload; if it is longer, Respond returns an error
+// and may be called again with a shorter payload. If no node handed the query out, Respond returns an error.
 func (q *Query) Respond(payload []byte) error {
 	if q.serf == nil {
 		return errHandMade
@@ -112,7 +114,7 @@ func (q *Query) Respond(payload []byte) error {
 	if atomic.LoadUint32(&q.answered) == 1 {
 		return errAnswered
 	}
-	err := q.serf.respond(q.handed, payload)
+	err := q.serf.respond(q.pending, payload)
 	if err == nil {
 		atomic.StoreUint32(&q.answered, 1)
 	}

@@ -6,20 +6,21 @@ import (
 	"kitchenrue.example/serfagent"
 )
 
-// EventState is what a file says of the handlers of an event.
+// EventState is the state of an event's handlers according to a snapshot.
 type EventState int
 
 // The states of an event's handlers.
 const (
-	// EventUnknown: the file does not say what became of the handlers.
+	// EventUnknown: the snapshot does not say whether handlers of the event have begun or ended.
 	EventUnknown EventState = iota
-	// EventWaiting: no handler has begun. It begins in the next life, or later in this one.
+	// EventWaiting: no handler of the event has begun. One may begin later in this life, or in the next one.
 	EventWaiting
-	// EventBegun: a handler has begun, and the event is not done. The handler is running, or it was cut off.
+	// EventBegun: a handler has begun, and the event is not done. The handler is still running, or it was interrupted.
 	EventBegun
 	// EventDone: a handler has begun, and the event is done.
 	EventDone
-	// EventNeverBegan: no handler has begun, and the event is done. No handler matched it, or a later event took its place.
+	// EventNeverBegan: the event is done although no handler began. Either no handler matched the event, or a later
+	// event replaced it.
 	EventNeverBegan
 )
 
@@ -27,30 +28,30 @@ var eventStates = []string{"unknown", "waiting", "begun", "done", "never began"}
 
 func (s EventState) String() string { return eventStates[s] }
 
-// EventRun is an event of a file, and what the file says of its handlers.
+// EventRun is an event of a snapshot, and the information about its handlers that the snapshot has.
 type EventRun struct {
 	UserEvent
 	State EventState
-	// Runs are how the handlers ended, if the event is done. It is empty if that is not known.
+	// Runs says how each handler ended, if the event is done. It is empty if the snapshot does not say how they ended.
 	Runs []HandlerRun
-	// Process is the last handler that is known to have begun, if the event has begun and is not done.
+	// Process is the process of the last handler that is known to have begun, if the event has begun and is not done.
 	Process *HandlerProcess
-	// HasBegunAgain says that BeginAgain was called, if the event has begun and is not done.
+	// HasBegunAgain is true if the event has begun, is not done, and BeginAgain was called for it.
 	HasBegunAgain bool
 }
 
-// EventRuns is what a file says of the handlers of events.
+// EventRuns has the events of a snapshot, and the information about their handlers that the snapshot has.
 type EventRuns struct {
 	// Events are sorted by time.
 	Events []EventRun
-	// IsTracked is whether the file says anything of handlers. If not, all events are EventUnknown.
+	// IsTracked is true if the snapshot has lines about handlers. If it is false, all events are EventUnknown.
 	IsTracked bool
-	// Minimum is the smallest time whose events the file has. It may have others too.
+	// Minimum is the smallest time from which on the snapshot has all events. It may also have some earlier events.
 	Minimum LamportTime
 }
 
-// EventRunsOf reads what the text of a file says of the handlers of events. Any text can be read, also one of a node that is running or of
-// Serf. Serf has no such function.
+// EventRunsOf reads the events and their handlers from the text of a snapshot. It accepts any text, including the
+// snapshot of a running node and a snapshot that Serf wrote. Serf has no such function.
 func EventRunsOf(text []byte) (*EventRuns, error) {
 	open, isTracked, err := serfagent.OpenEventsOf(text)
 	if err != nil {
@@ -63,22 +64,22 @@ func EventRunsOf(text []byte) (*EventRuns, error) {
 			states[key] = EventBegun
 		}
 	}
-	says := readHandlerText(text)
-	found := &EventRuns{IsTracked: isTracked, Minimum: says.minimum}
-	for _, key := range says.events {
+	handlers := readHandlerText(text)
+	found := &EventRuns{IsTracked: isTracked, Minimum: handlers.minimum}
+	for _, key := range handlers.events {
 		state, isOpen := states[key]
 		if !isOpen {
-			state = says.stateOfDone(key)
+			state = handlers.stateOfDone(key)
 		}
 		event := EventRun{UserEvent: UserEvent{key.time, key.name, payloadOf([]byte(key.payload), nil), false}, State: state}
 		switch state {
 		case EventDone:
-			event.Runs = says.runs[key]
+			event.Runs = handlers.runs[key]
 		case EventBegun:
-			if process, ok := says.process[key]; ok {
+			if process, ok := handlers.processes[key]; ok {
 				event.Process = &process
 			}
-			event.HasBegunAgain = says.begun[key] > 1
+			event.HasBegunAgain = handlers.begunCounts[key] > 1
 		}
 		found.Events = append(found.Events, event)
 	}
@@ -90,26 +91,27 @@ func EventRunsOf(text []byte) (*EventRuns, error) {
 func (t *handlerText) stateOfDone(key eventKey) EventState {
 	_, hasRun := t.runs[key]
 	switch {
-	case hasRun || t.begun[key] > 0:
+	case hasRun || t.begunCounts[key] > 0:
 		return EventDone
-	case t.hasRanAfter && key.time > t.ranAfter:
+	case t.hasCompleteAfter && key.time > t.completeAfter:
 		return EventNeverBegan
 	}
 	return EventUnknown
 }
 
-// The maximum number of events whose runs a compaction keeps, and of the bytes of their lines.
+// MaxKeptRuns is the maximum number of events whose runs a compaction keeps. maxKeptRunBytes is the maximum number of
+// bytes of their lines.
 const (
 	MaxKeptRuns     = 1024
 	maxKeptRunBytes = 128 << 10
 )
 
-// keptRuns has the `#ran` lines of the events that were done last, for the next compaction.
+// keptRuns has the `#ran` lines of the events that were done most recently. The next compaction writes them.
 type keptRuns struct {
 	lines []keptRun
 	bytes int
-	// after is the largest time of an event whose line it does not have.
-	after LamportTime
+	// completeAfter is the largest time of an event whose `#ran` line is no longer in lines.
+	completeAfter LamportTime
 }
 
 type keptRun struct {
@@ -117,7 +119,7 @@ type keptRun struct {
 	line string
 }
 
-// add adds the line of an event, and removes the oldest ones if there is no room.
+// add adds the line of an event, and removes the oldest lines if there is no room.
 func (k *keptRuns) add(time LamportTime, line string) {
 	k.lines = append(k.lines, keptRun{time, line})
 	k.bytes += len(line)
@@ -126,27 +128,28 @@ func (k *keptRuns) add(time LamportTime, line string) {
 		k.lines[0] = keptRun{}
 		k.lines = k.lines[1:]
 		k.bytes -= len(first.line)
-		if first.time > k.after {
-			k.after = first.time
+		if first.time > k.completeAfter {
+			k.completeAfter = first.time
 		}
 	}
 }
 
-// restore adds the lines of a text. If it doesn't say from which time on it has them all, lastTime is the time of its last event.
-func (k *keptRuns) restore(says *handlerText, isOpen func(eventKey) bool, lastTime LamportTime) {
-	if k.after = says.ranAfter; !says.hasRanAfter {
-		k.after = lastTime
+// restore adds the `#ran` lines of a snapshot's text. A text without a line of completeAfterLine may lack `#ran` lines of
+// any event; in that case, completeAfter becomes lastTime, the time of the text's last event.
+func (k *keptRuns) restore(handlers *handlerText, isOpen func(eventKey) bool, lastTime LamportTime) {
+	if k.completeAfter = handlers.completeAfter; !handlers.hasCompleteAfter {
+		k.completeAfter = lastTime
 	}
-	for _, key := range says.ended {
-		if _, hasRun := says.runs[key]; !isOpen(key) && (hasRun || says.begun[key] > 0) {
-			k.add(key.time, ranLine(key, says.runs[key]))
+	for _, key := range handlers.ended {
+		if _, hasRun := handlers.runs[key]; !isOpen(key) && (hasRun || handlers.begunCounts[key] > 0) {
+			k.add(key.time, ranLine(key, handlers.runs[key]))
 		}
 	}
 }
 
-// text returns the lines for a compaction.
+// text returns the lines that a compaction writes.
 func (k *keptRuns) text() []byte {
-	text := append(make([]byte, 0, k.bytes+len(ranPrefix)+21), ranAfterLine(k.after)...)
+	text := append(make([]byte, 0, k.bytes+len(ranPrefix)+21), completeAfterLine(k.completeAfter)...)
 	for _, run := range k.lines {
 		text = append(text, run.line...)
 	}

@@ -13,7 +13,7 @@ import (
 	"kitchenrue.example/serfagent"
 )
 
-// describeRuns returns what a text says of handlers, an event on a line.
+// describeRuns describes the events of a snapshot's text and their handlers, with one line for each event.
 func describeRuns(t *testing.T, text string) string {
 	t.Helper()
 	found, err := EventRunsOf([]byte(text))
@@ -35,7 +35,7 @@ func describeRuns(t *testing.T, text string) string {
 	return lines.String()
 }
 
-// sameRuns checks what a text says of handlers.
+// sameRuns checks the description that describeRuns returns for a snapshot's text.
 func sameRuns(t *testing.T, what, text, want string) {
 	t.Helper()
 	if found := describeRuns(t, text); found != want {
@@ -43,22 +43,22 @@ func sameRuns(t *testing.T, what, text, want string) {
 	}
 }
 
-// compactNow replaces the node's file.
+// compactNow compacts the node's file and returns the new content.
 func (n *testNode) compactNow() string {
 	n.t.Helper()
-	must(n.t, n.inOrder(func() error { return n.snapshot.compact(n.members.aliveLines(), n.compactLibrary) }))
+	must(n.t, n.useAgent(func() error { return n.snapshot.compact(n.members.aliveLines(), n.compactLibrary) }))
 	return readFile(n.t, n.snapshot.path)
 }
 
-// handle begins an event, and says how its handlers ended.
+// handle calls Begin for an event, and then DoneWith with these runs.
 func (n *testNode) handle(e UserEvent, runs ...HandlerRun) {
 	n.t.Helper()
 	must(n.t, n.Begin(e))
 	must(n.t, n.DoneWith(e, runs))
 }
 
-// A file says of each event how its handlers ended, which process runs, and whether none began: while the node runs, after a kill, over lives
-// and compactions.
+// For each event, the file says how its handlers ended, which process runs, or that none began. This holds while the
+// node runs, after a kill, and across lives and compactions.
 func TestEventRuns(t *testing.T) {
 	folder := t.TempDir()
 	a := startNode(t, "a", folder, withTracking)
@@ -85,7 +85,7 @@ func TestEventRuns(t *testing.T) {
 	sameRuns(t, "compacted", a.compactNow(), want)
 	later := a.fireNew("later", nil)
 	must(t, a.Done(later))
-	must(t, a.inOrder(a.appendWaiting))
+	must(t, a.useAgent(a.appendWaitingLines))
 	sameRuns(t, "killed", a.kill(), want+"7 later: never began\n")
 
 	a = startNode(t, "a", folder, withTracking)
@@ -103,8 +103,8 @@ func TestEventRuns(t *testing.T) {
 	check(t, a.Shutdown())
 }
 
-// A compaction keeps the lines of the last events that were handled, a bounded number and a bounded number of bytes. What became of those
-// before them is unknown, and never that they did not begin.
+// A compaction keeps the lines of the last handled events, up to a maximum number of events and of bytes. Earlier
+// handled events become unknown, and are never reported as events that did not begin.
 func TestKeptRunsAreBounded(t *testing.T) {
 	var runs keptRuns
 	for i := 1; i <= MaxKeptRuns+3; i++ {
@@ -115,11 +115,11 @@ func TestKeptRunsAreBounded(t *testing.T) {
 	}
 	long := strings.Repeat("x", 10000)
 	for i := 1; i <= 100; i++ {
-		// (the times fall: an event may be handled after a later one)
+		// (the times decrease, since an event may be handled after a later one)
 		runs.add(LamportTime(9999-i), ranLine(eventKey{LamportTime(9999 - i), long, ""}, nil))
 	}
-	if runs.bytes > maxKeptRunBytes || runs.bytes < maxKeptRunBytes-2*len(long)-100 || runs.after != 9998 {
-		t.Error(runs.bytes, runs.after)
+	if runs.bytes > maxKeptRunBytes || runs.bytes < maxKeptRunBytes-2*len(long)-100 || runs.completeAfter != 9998 {
+		t.Error(runs.bytes, runs.completeAfter)
 	}
 
 	a := startNode(t, "a", t.TempDir(), withTracking)
@@ -142,7 +142,8 @@ func TestKeptRunsAreBounded(t *testing.T) {
 	}
 }
 
-// Any text is read: one that says nothing of handlers, one of a program that does not say how handlers ended, one with lines that are none.
+// EventRunsOf reads any text: one without lines about handlers, one of a program that does not record how handlers
+// ended, and one with malformed lines.
 func TestTextsOfOtherPrograms(t *testing.T) {
 	lines := "#event 1 61 \n#begun 1 61 \n#done 1 61 \n#event 2 62 \n#done 2 62 \n#event 3 63 \n#begun 3 63 \n"
 	for _, test := range []struct{ what, text, want string }{
@@ -177,7 +178,8 @@ func TestTextsOfOtherPrograms(t *testing.T) {
 	}
 }
 
-// A file that is cut at any byte says less, and nothing else: no event ends that did not, and none that began is one that never did.
+// If a file is cut at any byte, it says less, but nothing false. No event that isn't done is reported as done, and no
+// event whose handler began is reported as one that never began.
 func TestCutTextsOfRuns(t *testing.T) {
 	whole := "#done 0\n#ran 0\n#event 1 61 \n#begun 1 61 \n#process 1 61  x 7 8 9\n#done 1 61 \n#ran 1 61  x=17\n#event 2 62 \n#begun 2 62 \n"
 	allowed := map[string]bool{
@@ -196,11 +198,12 @@ func TestCutTextsOfRuns(t *testing.T) {
 	}
 }
 
-// The library reads the same from a file with the lines about runs and processes as from one without them.
+// The library ignores the lines about runs and processes: it reads the same from a file with them as from one without
+// them.
 func TestLinesOfRunsAreOtherLines(t *testing.T) {
 	key := eventKey{2, "bb", "\x00v"}
 	with := []string{
-		"#done 0\n", ranAfterLine(18446744073709551615), "clock: 3\n", "event-clock: 02\n", "#event 1 61 \n", ranLine(eventKey{1, "a", ""}, []HandlerRun{{"x", "0"}}), "#event 2 6262 0076\n",
+		"#done 0\n", completeAfterLine(18446744073709551615), "clock: 3\n", "event-clock: 02\n", "#event 1 61 \n", ranLine(eventKey{1, "a", ""}, []HandlerRun{{"x", "0"}}), "#event 2 6262 0076\n",
 		"#begun 2 6262 0076\n", processLine(key, HandlerProcess{"event-clock: 9", 1, 2, "b"}), ranLine(key, nil), "query-clock: 05\n", ranLine(key, []HandlerRun{{"#done 5\n", "#event 1"}}),
 	}
 	var without []string
@@ -236,14 +239,15 @@ func TestLinesOfRunsAreOtherLines(t *testing.T) {
 	}
 }
 
-// A file of the version that does not say how handlers ended is continued: what it handled is unknown or done, and what is handled now is known.
+// A node can continue a file of the previous version, which does not say how handlers ended. Events that the previous
+// version handled are unknown or done. For events that are handled now, the file says how their handlers ended.
 func TestFileOfTheVersionBefore(t *testing.T) {
 	folder := t.TempDir()
 	a := startNode(t, "a", folder, withTracking)
 	handled, none := a.fireNew("handled", nil), a.fireNew("none", nil)
 	a.handle(handled)
 	must(t, a.Done(none))
-	must(t, a.inOrder(a.appendWaiting))
+	must(t, a.useAgent(a.appendWaitingLines))
 	var kept []string
 	for _, line := range strings.SplitAfter(a.kill(), "\n") {
 		if !strings.HasPrefix(line, ranPrefix) {
@@ -253,15 +257,15 @@ func TestFileOfTheVersionBefore(t *testing.T) {
 	writeFile(t, a.snapshot.path, strings.Join(kept, ""))
 	a = startNode(t, "a", folder, withTracking)
 	must(t, a.Done(a.fireNew("new", nil)))
-	must(t, a.inOrder(a.appendWaiting))
+	must(t, a.useAgent(a.appendWaitingLines))
 	want := "1 handled: done\n2 none: unknown\n3 new: never began\n"
 	sameRuns(t, "continued", readFile(t, a.snapshot.path), want)
 	sameRuns(t, "compacted", a.compactNow(), want)
 	check(t, a.Shutdown())
 }
 
-// A process is running until it has ended, also if nobody has waited for it. Neither a process with its number that started at another time
-// nor one of another start of the machine is that process.
+// A process that has ended is no longer running, even if its parent has not waited for it yet. A process with the same
+// PID that started at another time, or in another boot of the machine, is a different process.
 func TestProcesses(t *testing.T) {
 	command := exec.Command("/bin/sh", "-c", "read line")
 	input, err := command.StdinPipe()
@@ -280,7 +284,7 @@ func TestProcesses(t *testing.T) {
 	if other.Boot = "another"; other.IsRunning() || other.IsOfThisBoot() {
 		t.Error("a process of another boot is the same")
 	}
-	if key := (eventKey{1, "a", ""}); !reflect.DeepEqual(readHandlerText([]byte("#done 0\n" + processLine(key, process))).process[key], process) {
+	if key := (eventKey{1, "a", ""}); !reflect.DeepEqual(readHandlerText([]byte("#done 0\n" + processLine(key, process))).processes[key], process) {
 		t.Error(processLine(key, process))
 	}
 	check(t, input.Close())
@@ -297,7 +301,7 @@ func TestProcesses(t *testing.T) {
 	}
 }
 
-// The name of a program may contain anything.
+// The name of a program may contain any character.
 func TestProcessWithAnOddName(t *testing.T) {
 	program := filepath.Join(t.TempDir(), "a) Z 1 (b")
 	sleep, err := exec.LookPath("sleep")
@@ -315,7 +319,8 @@ func TestProcessWithAnOddName(t *testing.T) {
 	_ = command.Wait()
 }
 
-// Events that are done without a handler share a line if no event of their times or before is open. What is open stays open.
+// Events that are done without a handler share one line if no event up to the last of their times is open. Open events
+// stay open.
 func TestSkippedEventsShareALine(t *testing.T) {
 	for open, want := range map[int]string{
 		0: "#done 4\n", 5: "#done 4\n", 1: "#done 2 6e \n#done 3 6e \n#done 4 6e \n", 3: "#done 1 6e \n#done 2 6e \n#done 4 6e \n", 4: "#done 3\n",
@@ -329,17 +334,17 @@ func TestSkippedEventsShareALine(t *testing.T) {
 		if open != 5 {
 			must(t, a.Done(events[4]))
 		}
-		// (so no other goroutine appends the lines)
-		a.order.Lock()
-		must(t, a.appendWaiting())
+		// (agentMu is held so that no other goroutine appends the lines)
+		a.agentMu.Lock()
+		must(t, a.appendWaitingLines())
 		before := readText(t, a.snapshot.path)
 		for _, e := range events[:4] {
 			if int(e.LTime) != open {
 				must(t, a.Done(e))
 			}
 		}
-		must(t, a.appendWaiting())
-		a.order.Unlock()
+		must(t, a.appendWaitingLines())
+		a.agentMu.Unlock()
 		text := readText(t, a.snapshot.path)
 		if found := strings.TrimPrefix(text, before); found != want {
 			t.Errorf("%d is open: %q, and not %q", open, found, want)

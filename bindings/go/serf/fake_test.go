@@ -43,7 +43,7 @@ type testNode struct {
 	onEvent func(Event)
 }
 
-// readEvents receives what the node delivers.
+// readEvents receives the events that the node delivers.
 func (n *testNode) readEvents(events <-chan Event) {
 	for {
 		n.mu.Lock()
@@ -68,7 +68,7 @@ func (n *testNode) readEvents(events <-chan Event) {
 	}
 }
 
-// pauseReading stops receiving events, or continues.
+// pauseReading stops receiving events if isPaused is true, and otherwise resumes.
 func (n *testNode) pauseReading(isPaused bool) {
 	n.mu.Lock()
 	defer n.mu.Unlock()
@@ -114,10 +114,10 @@ func (n *testNode) statusOf(name string) string {
 	return m.Status.String()
 }
 
-// option changes how a node of a test is made.
+// option changes the options with which a test starts a node.
 type option func(*nodeOptions)
 
-// nodeOptions say how a node of a test is made.
+// nodeOptions has the options with which a test starts a node.
 type nodeOptions struct {
 	Config
 	agent    Agent
@@ -140,7 +140,7 @@ func withLimits(query, response int) option {
 	return func(o *nodeOptions) { o.QuerySizeLimit, o.QueryResponseSizeLimit = query, response }
 }
 
-func withOnEvent(tap func(Event)) option { return func(o *nodeOptions) { o.onEvent = tap } }
+func withOnEvent(onEvent func(Event)) option { return func(o *nodeOptions) { o.onEvent = onEvent } }
 
 func withLog(to io.Writer) option { return func(o *nodeOptions) { o.LogOutput = to } }
 
@@ -151,7 +151,8 @@ func atPort(port uint16) option {
 	}
 }
 
-// loopbackConfig is a configuration on a loopback address with fast gossip. (A busy machine may still send late.)
+// loopbackConfig returns the configuration of a node on a loopback address, with fast gossip. (A busy machine may still
+// send late.)
 func loopbackConfig(name string) Config {
 	c := *DefaultConfig()
 	c.NodeName, c.ProtocolVersion, c.BroadcastTimeout, c.LogOutput = name, ProtocolVersionMax, 20*time.Second, io.Discard
@@ -185,7 +186,7 @@ func startNode(t *testing.T, name, folder string, opts ...option) *testNode {
 	return n
 }
 
-// createOver creates a node over a test's agent.
+// createOver creates a node that uses a test's agent.
 func createOver(options *nodeOptions) (*Serf, error) {
 	options.SnapshotPath = ""
 	config, err := options.withDefaults()
@@ -201,6 +202,7 @@ func createOver(options *nodeOptions) (*Serf, error) {
 
 func (n *testNode) address() string { return n.memberlist().LocalNode().Address() }
 
+// join joins another node, and fails the test if that fails.
 func (n *testNode) join(other *testNode) {
 	n.t.Helper()
 	if _, err := n.Join([]string{other.address()}, true); err != nil {
@@ -234,8 +236,8 @@ func (n *testNode) statusTime(name string) uint64 {
 	return 0
 }
 
-// patience is how long a test waits for something that has to happen: a time for busy machines. If a wrong body is planted
-// (tests/library/go_mutants.py), it waits for a shorter time, since that may never happen.
+// patience is how long a test waits for something that has to happen. It is long enough for busy machines. If a wrong
+// body is planted (tests/library/go_mutants.py), patience is shorter, since the expected thing may never happen.
 var patience = map[bool]time.Duration{true: 2 * time.Minute, false: 15 * time.Second}[os.Getenv("SERF_WRONG_BODY") == ""]
 
 // eventually waits until the condition holds, up to the test's patience.
@@ -249,7 +251,7 @@ func eventually(t *testing.T, what string, holds func() bool) {
 	t.Fatalf("this never happened: %s", what)
 }
 
-// promptly makes a call that must not block, up to the test's patience.
+// promptly makes a call that must not block. It fails the test if the call takes longer than the test's patience.
 func promptly(t *testing.T, what string, call func()) {
 	t.Helper()
 	finished := make(chan struct{})
@@ -269,15 +271,16 @@ type fakeAgent struct {
 	mu         sync.Mutex
 	time       uint64
 	receiveErr error
-	// how many packets, and how many firings, each call had
+	// bursts has the number of packets of each call of TakeAll, and firings the number of its firings.
 	bursts, firings []int
-	// If it isn't nil, TakeAll blocks until it is closed, as if it waited for the disk.
+	// flushGate, if it isn't nil, makes TakeAll block until the channel is closed, as if TakeAll waited for the disk.
 	flushGate chan struct{}
-	// If it isn't nil, NextMemberTime blocks until it is closed, as if it waited for the disk.
+	// memberTimeGate, if it isn't nil, makes NextMemberTime block until the channel is closed, as if it waited for the
+	// disk.
 	memberTimeGate chan struct{}
-	// how many calls of NextMemberTime run out of memory before one succeeds
+	// memoryFailures is how many calls of NextMemberTime run out of memory before one succeeds.
 	memoryFailures atomic.Int64
-	// the numbers of the queries that were forgotten
+	// forgotten has the numbers of the queries that were forgotten.
 	forgotten []uint64
 }
 
@@ -364,18 +367,19 @@ func (f *fakeAgent) SaveMemberClock() error                       { return nil }
 func (f *fakeAgent) CompactWith([]byte) error                     { return nil }
 func (f *fakeAgent) Close() error                                 { return nil }
 
-// failingAgent is a fakeAgent whose method of one name fails a number of times and then succeeds. Merge returns an event for each state,
-// even if it fails.
+// failingAgent is a fakeAgent of which one method fails a number of times and then succeeds. Merge returns an event for
+// each state, even if it fails.
 type failingAgent struct {
 	fakeAgent
 	call     string
 	err      error
 	failures atomic.Int64
-	// onObserve, if it isn't nil, is called with each time that ObserveMember gets.
+	// onObserve, if it isn't nil, is called with each time that ObserveMember receives.
 	onObserve func(time uint64)
 }
 
-func (f *failingAgent) fails(call string) error {
+// failIfChosen returns the error if this is the call that has to fail now.
+func (f *failingAgent) failIfChosen(call string) error {
 	if call == f.call && f.failures.Add(-1) >= 0 {
 		return f.err
 	}
@@ -383,7 +387,7 @@ func (f *failingAgent) fails(call string) error {
 }
 
 func (f *failingAgent) TakeAll(now uint64, packets []Packet, firings []Firing) ([]serfagent.Outcome, error) {
-	if err := f.fails("TakeAll"); err != nil {
+	if err := f.failIfChosen("TakeAll"); err != nil {
 		return nil, err
 	}
 	return f.fakeAgent.TakeAll(now, packets, firings)
@@ -393,24 +397,26 @@ func (f *failingAgent) Merge(state []byte, _ bool) ([]*serfagent.Event, error) {
 	f.mu.Lock()
 	defer f.mu.Unlock()
 	f.time++
-	return []*serfagent.Event{{Time: f.time, Name: []byte("merged"), Payload: state}}, f.fails("Merge")
+	return []*serfagent.Event{{Time: f.time, Name: []byte("merged"), Payload: state}}, f.failIfChosen("Merge")
 }
 
 func (f *failingAgent) ObserveMember(time uint64) error {
 	if f.onObserve != nil {
 		f.onObserve(time)
 	}
-	return f.fails("ObserveMember")
+	return f.failIfChosen("ObserveMember")
 }
 
 func (f *failingAgent) NextMemberTime() (uint64, error) {
-	return f.ownMemberTime(), f.fails("NextMemberTime")
+	return f.ownMemberTime(), f.failIfChosen("NextMemberTime")
 }
-func (f *failingAgent) SaveMemberClock() error                       { return f.fails("SaveMemberClock") }
-func (f *failingAgent) CompactWith([]byte) error                     { return f.fails("CompactWith") }
-func (f *failingAgent) CloseDue(uint64) ([]*serfagent.Closed, error) { return nil, f.fails("CloseDue") }
+func (f *failingAgent) SaveMemberClock() error   { return f.failIfChosen("SaveMemberClock") }
+func (f *failingAgent) CompactWith([]byte) error { return f.failIfChosen("CompactWith") }
+func (f *failingAgent) CloseDue(uint64) ([]*serfagent.Closed, error) {
+	return nil, f.failIfChosen("CloseDue")
+}
 
-// logBuffer is a log that many goroutines may write and a test reads.
+// logBuffer is a log to which many goroutines may write, and which a test reads.
 type logBuffer struct {
 	mu   sync.Mutex
 	text []byte

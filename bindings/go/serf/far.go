@@ -10,9 +10,10 @@ import (
 // leave a clock almost no times; a node whose clock is exhausted can never fire again. So a packet or a state with an implausibly far time
 // is dropped before the proved agent receives it.
 //
-// A time is far if it is at least FarTime plus the time of day in nanoseconds since 1970. A fixed limit would be reached by a flood of
-// times just below it: whatever is fired then is beyond the limit, and a node whose clock begins at 0 would never accept it. This limit
-// rises by one per nanosecond, faster than anybody can fire, so it soon exceeds these clocks on each node whose time of day is right.
+// A time is far if it is at least FarTime plus the time of day in nanoseconds since 1970. A fixed limit would not help.
+// A flood of times just below it would push the clocks up to the limit; every event fired after that would be beyond
+// the limit, and a node whose clock begins at 0 would never accept one. This limit rises by one per nanosecond, faster
+// than anybody can fire, so it soon exceeds these clocks on each node whose time of day is right.
 const FarTime = 1 << 62
 
 // farThreshold returns the first time that is far at this time of day. It is at most 2^63, which it reaches in 2116.
@@ -28,15 +29,16 @@ func farThreshold(now time.Time) uint64 {
 	}
 }
 
-// nearMargin is how far above this node's own clock a far time may be and still be accepted, since a machine's time of day may be set back.
-// These times could rise faster than the threshold only if somebody sent two million packets a second.
+// nearMargin allows for a machine whose time of day is set back: the node still accepts a far time if it exceeds the
+// node's own clock by at most nearMargin. These times could rise faster than the threshold only if somebody sent two
+// million packets per second.
 const nearMargin = 512
 
 // isFar reports whether a packet or a state contains a far time that isn't near this node's own clock of the same kind.
 func (s *Serf) isFar(data []byte) bool {
 	times, err := readTimes(data)
 	if err != nil {
-		// (if the library refuses the packet too, it moves no clock, and the library's error has the reason)
+		// (if the library refuses the packet too, the packet moves no clock, and the library's error has the reason)
 		return !isMalformed(data)
 	}
 	if times.max() < FarTime {
@@ -61,7 +63,8 @@ func isMalformed(data []byte) bool {
 	return isBad
 }
 
-// warnOfFarClocks logs a warning for each clock of the file that is so far that other nodes drop what this node sends by it.
+// warnOfFarClocks logs a warning for each clock of the snapshot that is so far ahead that other nodes drop the packets
+// with its times.
 func (s *Serf) warnOfFarClocks() {
 	clocks, err := s.agent.Clocks()
 	if err != nil {

@@ -18,7 +18,7 @@ func withTime(begin string, time uint64, end string) []byte {
 	return append(binary.BigEndian.AppendUint64([]byte(begin+"\xcf"), time), end...)
 }
 
-// Packets that move a clock to a time.
+// farPackets has functions that make packets which move a clock to a time.
 var farPackets = map[string]func(time uint64) []byte{
 	"an event": func(time uint64) []byte { return withTime("\x03\x82\xa5LTime", time, "\xa4Name\xa3far") },
 	"an event whose time comes last": func(time uint64) []byte {
@@ -31,7 +31,7 @@ var farPackets = map[string]func(time uint64) []byte{
 	"a leave": func(time uint64) []byte { return withTime("\x00\x82\xa5LTime", time, "\xa4Node\xa1a") },
 }
 
-// States that do.
+// farStates has functions that make states which move a clock to a time.
 var farStates = map[string]func(time uint64) []byte{
 	"a state's member clock": func(time uint64) []byte { return withTime("\x02\x81\xa5LTime", time, "") },
 	"a status":               func(time uint64) []byte { return withTime("\x02\x81\xacStatusLTimes\x81\xa1b", time, "") },
@@ -55,7 +55,7 @@ func expectWorking(t *testing.T, a, b *testNode) {
 	eventually(t, "the leave arrives", func() bool { return b.statusOf("a") == "left" || b.statusOf("a") == "leaving" })
 }
 
-// farTimeAfter returns the first time that will be far after this duration.
+// farTimeAfter returns the first time that will still be far when this duration has passed.
 func farTimeAfter(later time.Duration) uint64 { return farThreshold(time.Now().Add(later)) }
 
 // clocks returns the node's clocks.
@@ -68,7 +68,7 @@ func (n *testNode) clocks() serfagent.Clocks {
 	return clocks
 }
 
-// A far time is dropped and counted, in whichever place of a message it is, and moves no clock.
+// A message with a far time in any place is dropped and counted, and moves no clock.
 func TestFarTimesAreDropped(t *testing.T) {
 	a, b := startPair(t)
 	before := a.clocks()
@@ -145,8 +145,9 @@ func waitUntilIdle(t *testing.T, a *testNode) {
 	})
 }
 
-// A flood of times near the threshold moves the clocks there. The node still works, and a node that joins then, with clocks near 0,
-// receives what it fires and is received. (An event that is fired while parts of the flood still wait is soon too old for that node.)
+// A flood of times near the threshold moves the clocks there. The node still works. If a node with clocks near 0 joins
+// then, each of the two receives the events that the other fires. (An event that is fired while parts of the flood
+// still wait is soon too old for the new node.)
 func TestNodeThatJoinsAfterFlood(t *testing.T) {
 	a, b := startPair(t)
 	floodNearBound(a, time.Second)
@@ -249,7 +250,8 @@ func TestFarTimesNearAnotherClock(t *testing.T) {
 	}
 }
 
-// readTimes reads every message that the library accepts, with the same times, also if some bytes are changed.
+// For every message that the library accepts, readTimes reads the same times as the library, even if some bytes were
+// changed.
 func TestReadTimesAgreesWithLibrary(t *testing.T) {
 	accepted := 0
 	for _, whole := range append(allPackets(farPackets), append(allPackets(farStates), unhex(t, statePacket), unhex(t, leavePacket))...) {
@@ -275,8 +277,9 @@ func TestReadTimesAgreesWithLibrary(t *testing.T) {
 	}
 }
 
-func allPackets(of map[string]func(uint64) []byte) (packets [][]byte) {
-	for _, packet := range of {
+// allPackets returns the packets of these makers with the time 2^62.
+func allPackets(makers map[string]func(uint64) []byte) (packets [][]byte) {
+	for _, packet := range makers {
 		packets = append(packets, packet(1<<62))
 	}
 	return packets

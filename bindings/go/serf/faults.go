@@ -1,9 +1,10 @@
 //go:build faults
 
-// Built with `-tags faults`, for tests only: a transport that loses packets, repeats them, delays them and so changes their order, and is
-// cut off from addresses. The file that KITCHENRUE_FAULTS names says which of this it does, and is read again every tenth of a second. Its
-// lines are `lose SHARE`, `repeat SHARE`, `late SHARE`, `cut ADDRESS..` and `refuse streams`. An accepted stream's address does not say
-// which node opened it, so `cut` applies only to the streams that this node opens.
+// This file is built with `-tags faults`, for tests only. Its transport loses, repeats and delays packets, so their
+// order changes too, and it cuts links to addresses. The file that KITCHENRUE_FAULTS names selects these faults, and
+// the transport reads that file again every tenth of a second. Its lines are `lose SHARE`, `repeat SHARE`, `late
+// SHARE`, `cut ADDRESS..` and `refuse streams`. The address of an accepted stream does not say which node opened the
+// stream, so `cut` applies only to streams that this node opens.
 
 package serf
 
@@ -28,14 +29,15 @@ const (
 
 var errCut = errors.New("the link is cut")
 
-// faults say what happens to packets and streams: the shares of packets that are lost, repeated and delayed, the addresses that are cut
-// off, and whether streams from other nodes are refused.
+// faults has the shares of packets that are lost, repeated and delayed, the addresses that are cut off, and whether the
+// node refuses streams from other nodes.
 type faults struct {
-	lose, repeat, late float64
-	cut                map[string]bool
-	refusesStreams     bool
+	loseShare, repeatShare, lateShare float64
+	cut                               map[string]bool
+	refusesStreams                    bool
 }
 
+// readFaults reads the lines of the file of faults.
 func readFaults(text string) *faults {
 	f := &faults{cut: map[string]bool{}}
 	for _, line := range strings.Split(text, "\n") {
@@ -45,11 +47,11 @@ func readFaults(text string) *faults {
 		}
 		switch words[0] {
 		case "lose":
-			fmt.Sscan(words[1], &f.lose)
+			fmt.Sscan(words[1], &f.loseShare)
 		case "repeat":
-			fmt.Sscan(words[1], &f.repeat)
+			fmt.Sscan(words[1], &f.repeatShare)
 		case "late":
-			fmt.Sscan(words[1], &f.late)
+			fmt.Sscan(words[1], &f.lateShare)
 		case "refuse":
 			f.refusesStreams = true
 		case "cut":
@@ -70,24 +72,24 @@ func (f *faults) isCut(address string) bool {
 }
 
 // deliver delivers a packet from or to an address: not at all, once or twice, and perhaps late.
-func (f *faults) deliver(address string, packet func()) {
-	if f.isCut(address) || rand.Float64() < f.lose {
+func (f *faults) deliver(address string, deliverOnce func()) {
+	if f.isCut(address) || rand.Float64() < f.loseShare {
 		return
 	}
-	count, isLate := 1, rand.Float64() < f.late
-	if rand.Float64() < f.repeat {
+	count, isLate := 1, rand.Float64() < f.lateShare
+	if rand.Float64() < f.repeatShare {
 		count = 2
 	}
 	for ; count > 0; count-- {
 		if isLate {
-			time.AfterFunc(time.Duration(rand.Int63n(int64(maxDelay))), packet)
+			time.AfterFunc(time.Duration(rand.Int63n(int64(maxDelay))), deliverOnce)
 		} else {
-			packet()
+			deliverOnce()
 		}
 	}
 }
 
-// faultyTransport is a transport with faults.
+// faultyTransport wraps a transport and injects faults.
 type faultyTransport struct {
 	memberlist.NodeAwareTransport
 	faults  atomic.Pointer[faults]
@@ -98,7 +100,8 @@ type faultyTransport struct {
 
 var _ memberlist.NodeAwareTransport = &faultyTransport{}
 
-// withFaults adds the faults of the file to a transport. Without the variable it returns the transport as it is.
+// withFaults adds the faults that the file selects to a transport. If KITCHENRUE_FAULTS is not set, it returns the
+// transport unchanged.
 func withFaults(inner memberlist.NodeAwareTransport) (memberlist.Transport, error) {
 	path := os.Getenv("KITCHENRUE_FAULTS")
 	if path == "" {
@@ -124,13 +127,14 @@ func withFaults(inner memberlist.NodeAwareTransport) (memberlist.Transport, erro
 	return t, nil
 }
 
+// read reads the file of faults, and applies it from the next packet on.
 func (t *faultyTransport) read(path string) {
 	// (without the file there are no faults)
 	text, _ := os.ReadFile(path)
 	t.faults.Store(readFaults(string(text)))
 }
 
-// receive passes on the packets and streams that arrive, with the faults.
+// receive passes the packets and streams that arrive on to memberlist, and injects the faults.
 func (t *faultyTransport) receive() {
 	for {
 		select {
@@ -187,7 +191,7 @@ func (t *faultyTransport) DialAddressTimeout(address memberlist.Address, timeout
 
 func (t *faultyTransport) Shutdown() error {
 	close(t.done)
-	// (its listeners may wait until what they received is read)
+	// (the listeners of the inner transport may block until somebody reads what they received)
 	result := make(chan error, 1)
 	go func() { result <- t.NodeAwareTransport.Shutdown() }()
 	for {

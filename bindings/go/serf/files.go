@@ -7,10 +7,11 @@ import (
 	"kitchenrue.example/serfagent"
 )
 
-// maxLineLength is the maximum length of a line that is read. This package writes no longer line.
+// maxLineLength is the maximum length in bytes of a line that readLines reads. This package writes no longer line.
 const maxLineLength = 64 << 10
 
-// readLines reads a text of any length line by line. The last line needs no newline. Lines that are too long are skipped.
+// readLines reads a text of any length line by line. The last line needs no newline. It skips lines longer than
+// maxLineLength.
 func readLines(text io.Reader, apply func(line string)) error {
 	reader := bufio.NewReaderSize(text, maxLineLength)
 	wasPartial := false

@@ -11,12 +11,13 @@ import (
 // maxFilters is the maximum number of filters of a query. A query with more of them is not handed out here.
 const maxFilters = 128
 
-// maxExpressionSize is the maximum size of the expressions of a query's filters together: the number of their parts, in which a repeated part
-// counts as often as it may be repeated. A packet of a few kilobytes could have millions, which would take seconds and hundreds of
+// maxExpressionSize is the maximum total size of the regular expressions of a query's filters. The size of an
+// expression is the number of its parts, and a repeated part counts as often as it may be repeated. Without a limit, a
+// packet of a few kilobytes could have millions of parts, and compiling it would take seconds and hundreds of
 // megabytes.
 const maxExpressionSize = 2000
 
-// ownTagsPass reports whether a packet is a query all of whose tag filters this node's tags pass.
+// ownTagsPass reports whether a packet is a query and this node's tags pass all of its tag filters.
 func (s *Serf) ownTagsPass(packet []byte) bool {
 	if packet[0] != queryType {
 		return false
@@ -81,8 +82,9 @@ func decodeTagFilter(filter []byte) (tag, expression string, err error) {
 	return found.Tag, found.Expr, err
 }
 
-// WithoutTagFilters returns a query's packet without its tag filters. It is for a record of queries that this node's tags pass, since the
-// record's reader knows no tags. A packet that is no query, or can't be read, is returned as it is. Serf has no such function.
+// WithoutTagFilters returns a query's packet without its tag filters. A program that records the queries that this
+// node's tags pass uses it, since a reader of the record doesn't know the tags. If the packet is not a query or can't
+// be read, WithoutTagFilters returns it unchanged. Serf has no such function.
 func WithoutTagFilters(packet []byte) []byte {
 	if len(packet) == 0 || packet[0] != queryType {
 		return packet
@@ -90,13 +92,13 @@ func WithoutTagFilters(packet []byte) []byte {
 	kept := [][]byte{}
 	start, end, isFound := 0, 0, false
 	d := newDecoder(packet[1:])
-	d.eachField(func(key string) bool {
+	d.readMap(func(key string) bool {
 		if key != "Filters" {
 			return false
 		}
 		start, isFound = 1+d.At, true
-		for count := d.arrayHeader(); count > 0 && d.Err == nil; count-- {
-			if filter := d.raw(); !IsTagFilter(filter) {
+		for count := d.readArrayHeader(); count > 0 && d.Err == nil; count-- {
+			if filter := d.readText(); !IsTagFilter(filter) {
 				kept = append(kept, filter)
 			}
 		}

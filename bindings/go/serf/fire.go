@@ -10,41 +10,42 @@ import (
 	"kitchenrue.example/serfagent"
 )
 
-// maxGatherWait is the maximum time that a flush waits for the callers of the previous one to fire again.
-const maxGatherWait = 5 * time.Millisecond
+// maxOutstandingWait is the maximum time that a flush waits for the callers of the previous one to fire again.
+const maxOutstandingWait = 5 * time.Millisecond
 
-// firing is an event to fire. Its result is there once isDone has a value.
+// firing is an event to fire. Its fields time and err are set before done gets a value.
 type firing struct {
 	Firing
 
-	isDone chan struct{}
-	// the event's time, or why it was not fired
+	done chan struct{}
+	// time is the event's time. err is the reason if the event was not fired.
 	time LamportTime
 	err  error
 }
 
-// firingPool has firings that are finished, for use by later calls.
-var firingPool = sync.Pool{New: func() interface{} { return &firing{isDone: make(chan struct{}, 1)} }}
+// firingPool has finished firings that later calls reuse.
+var firingPool = sync.Pool{New: func() interface{} { return &firing{done: make(chan struct{}, 1)} }}
 
-// firingQueue has the firings that wait. For each of them a goroutine waits in fireAndWait.
+// firingQueue has the firings that wait for a burst. For each of them, a goroutine waits in fireAndWait.
 type firingQueue struct {
 	mu      sync.Mutex
 	waiting []*firing
-	// hasLeader: a goroutine fires what waits. isEnded: no more firings are accepted.
+	// hasLeader: a goroutine is firing the waiting firings. isEnded: the queue accepts no more firings.
 	hasLeader, isEnded bool
-	// reportedAt is when results were last reported, and outstanding how many of those callers have not fired again yet. returned is how
-	// many callers got a result then, and expected is that number plus those that were waiting at that moment. flushTime is how long their
-	// flush took. returnTime is the estimated time, from the last flushes, until all callers have fired again if all get their results at
-	// once.
-	reportedAt            time.Time
+	// wokenAt is when report last woke callers, and returned is how many callers it woke. outstanding is how many of
+	// these callers have not fired again yet. expected is returned plus the number of callers that were waiting at that
+	// moment. flushTime is how long the flush of these firings took. returnTime is how long all callers would take to
+	// fire again if they all received their results at once, as estimated from the last flushes.
+	wokenAt               time.Time
 	outstanding           int
 	returned, expected    int
 	flushTime, returnTime time.Duration
-	// noneOutstanding has a value when no caller is outstanding any more.
+	// noneOutstanding has a value when all callers that were woken have fired again.
 	noneOutstanding chan struct{}
-	// ready has a value when fireAll has to fire what waits.
+	// ready has a value when fireAll has to fire the waiting firings.
 	ready chan struct{}
-	// batch and batchFirings are the firings of one burst. They are reused, and order is held.
+	// batch and batchFirings have the firings of one burst. Each burst reuses these slices. agentMu guards
+	// them.
 	batch        []*firing
 	batchFirings []Firing
 }
@@ -53,8 +54,8 @@ func newFiringQueue() *firingQueue {
 	return &firingQueue{ready: make(chan struct{}, 1), noneOutstanding: make(chan struct{}, 1)}
 }
 
-// add queues a firing. isLeader means that no goroutine fires at the moment, so the caller has to. ok is false if no more firings are
-// accepted.
+// add queues a firing. If isLeader is true, no other goroutine is firing at the moment, so the caller has to fire the
+// waiting firings. ok is false if the queue accepts no more firings.
 func (f *firingQueue) add(firing *firing) (isLeader, ok bool) {
 	f.mu.Lock()
 	defer f.mu.Unlock()
@@ -63,14 +64,14 @@ func (f *firingQueue) add(firing *firing) (isLeader, ok bool) {
 	}
 	f.waiting = append(f.waiting, firing)
 	if f.outstanding--; f.outstanding == 0 {
-		f.updateReturnTime(time.Since(f.reportedAt))
+		f.updateReturnTime(time.Since(f.wokenAt))
 		signal(f.noneOutstanding)
 	}
 	isLeader, f.hasLeader = !f.hasLeader, true
 	return isLeader, true
 }
 
-// remove takes a firing back, unless a burst has taken it. It reports whether it did.
+// remove removes a firing from the queue. It returns false if a burst has already taken the firing.
 func (f *firingQueue) remove(removed *firing) bool {
 	f.mu.Lock()
 	defer f.mu.Unlock()
@@ -83,8 +84,8 @@ func (f *firingQueue) remove(removed *firing) bool {
 	return false
 }
 
-// passLead leaves the waiting firings to fireAll. If none is waiting, there is no leader from then on.
-func (f *firingQueue) passLead() {
+// leaveToFireAll leaves the waiting firings to fireAll. If none is waiting, the queue has no leader until the next firing.
+func (f *firingQueue) leaveToFireAll() {
 	f.mu.Lock()
 	defer f.mu.Unlock()
 	if f.hasLeader = len(f.waiting) > 0; f.hasLeader {
@@ -92,9 +93,9 @@ func (f *firingQueue) passLead() {
 	}
 }
 
-// updateReturnTime adjusts the estimate by how long the callers of the last report took to fire again, or have taken so far. If other
-// callers were waiting as well, all of them together would take proportionally longer; such a sample also has a proportionally smaller
-// weight. mu is held.
+// updateReturnTime adjusts the estimate returnTime. took is how long the callers of the last report took to fire again,
+// or how long they have taken so far. If other callers were waiting as well, all of them together would take
+// proportionally longer, so this sample is scaled up and has a proportionally smaller weight. The caller holds mu.
 func (f *firingQueue) updateReturnTime(took time.Duration) {
 	returned, expected, max := time.Duration(f.returned), time.Duration(f.expected), 2*f.flushTime
 	if took < max {
@@ -106,32 +107,33 @@ func (f *firingQueue) updateReturnTime(took time.Duration) {
 	f.returnTime += (took - f.returnTime) * returned / (4 * expected)
 }
 
-// gatherWait returns how long to wait for the callers that are outstanding. If all of them return before a flush of the others would end,
-// one flush for all is faster than two flushes for half of them each. Otherwise there is no wait.
-func (f *firingQueue) gatherWait() time.Duration {
+// outstandingWait returns how long to wait for the outstanding callers to fire again. If all of them will probably return
+// before a flush of the others would end, one flush for all callers is faster than two flushes for half of them each.
+// Otherwise outstandingWait returns 0.
+func (f *firingQueue) outstandingWait() time.Duration {
 	f.mu.Lock()
 	defer f.mu.Unlock()
 	if f.outstanding <= 0 || 4*f.returnTime > 3*f.flushTime {
 		return 0
 	}
 	max := f.flushTime
-	if max > maxGatherWait {
-		max = maxGatherWait
+	if max > maxOutstandingWait {
+		max = maxOutstandingWait
 	}
-	return max - time.Since(f.reportedAt)
+	return max - time.Since(f.wokenAt)
 }
 
-// report wakes the callers of these firings, whose results are set, and whose flush took flushTime.
-func (f *firingQueue) report(reported []*firing, flushTime time.Duration) {
+// wakeCallers wakes the callers of these firings. Their results are already set, and their flush took flushTime.
+func (f *firingQueue) wakeCallers(firings []*firing, flushTime time.Duration) {
 	f.mu.Lock()
 	if f.outstanding > 0 {
-		f.updateReturnTime(time.Since(f.reportedAt))
+		f.updateReturnTime(time.Since(f.wokenAt))
 	}
-	f.reportedAt, f.flushTime = time.Now(), flushTime
-	f.outstanding, f.returned, f.expected = len(reported), len(reported), len(reported)+len(f.waiting)
+	f.wokenAt, f.flushTime = time.Now(), flushTime
+	f.outstanding, f.returned, f.expected = len(firings), len(firings), len(firings)+len(f.waiting)
 	f.mu.Unlock()
-	for _, firing := range reported {
-		firing.isDone <- struct{}{}
+	for _, firing := range firings {
+		firing.done <- struct{}{}
 	}
 }
 
@@ -140,10 +142,10 @@ func (f *firingQueue) refuse(refused []*firing, err error) {
 	for _, firing := range refused {
 		firing.err = err
 	}
-	f.report(refused, 0)
+	f.wakeCallers(refused, 0)
 }
 
-// takeBatch removes up to count firings from the queue, for a burst. order is held.
+// takeBatch removes up to count firings from the queue, for a burst. The caller holds agentMu.
 func (f *firingQueue) takeBatch(count int) ([]*firing, []Firing) {
 	f.mu.Lock()
 	defer f.mu.Unlock()
@@ -158,7 +160,7 @@ func (f *firingQueue) takeBatch(count int) ([]*firing, []Firing) {
 	return f.batch, f.batchFirings
 }
 
-// end refuses the firings that wait and all later ones.
+// end refuses the waiting firings and all later ones with ErrEnded.
 func (f *firingQueue) end() {
 	f.mu.Lock()
 	waiting := f.waiting
@@ -167,7 +169,7 @@ func (f *firingQueue) end() {
 	f.refuse(waiting, ErrEnded)
 }
 
-// fireAll fires, with one flush, the firings that a leader left to it.
+// fireAll waits until a leader leaves firings to it, and then fires them with one flush.
 func (s *Serf) fireAll() {
 	defer s.firings.end()
 	for {
@@ -180,20 +182,20 @@ func (s *Serf) fireAll() {
 	}
 }
 
-// fireWaiting fires what waits, and leaves the firings that arrive meanwhile to fireAll.
+// fireWaiting fires the waiting firings, and leaves those that arrive in the meantime to fireAll.
 func (s *Serf) fireWaiting() {
-	s.gather()
+	s.awaitOutstanding()
 	if err := s.processBurst(nil); isFinal(err) {
 		s.firings.end()
 	} else {
-		s.firings.passLead()
+		s.firings.leaveToFireAll()
 	}
 }
 
-// gather waits for the callers of the last flush to fire again, if gatherWait expects that to save a flush.
-func (s *Serf) gather() {
-	for left := s.firings.gatherWait(); left > 0; left = s.firings.gatherWait() {
-		timeout := time.NewTimer(left)
+// awaitOutstanding waits for the callers of the last flush to fire again, if outstandingWait expects that to save a flush.
+func (s *Serf) awaitOutstanding() {
+	for wait := s.firings.outstandingWait(); wait > 0; wait = s.firings.outstandingWait() {
+		timeout := time.NewTimer(wait)
 		select {
 		case <-s.firings.noneOutstanding:
 		case <-timeout.C:
@@ -202,13 +204,15 @@ func (s *Serf) gather() {
 	}
 }
 
-// UserEvent fires an event in the whole cluster, after the states that were received before. It returns after the event's line was flushed.
-// Events that are fired while another call waits for the disk share one flush.
+// UserEvent fires an event in the whole cluster. The node first merges the states that it has received. UserEvent
+// returns after the event's line was flushed. Events that are fired while another call waits for the disk share one
+// flush.
 //
-// If the maximum number of events is waiting for EventCh, UserEvent waits for up to BroadcastTimeout and then returns ErrBusy. After the
-// node has ended it returns ErrEnded, and for an event that is too large an error that names the limit. Other errors are those of the
-// proved agent. If UserEvent returns an error, the event was neither delivered here nor sent. If the disk failed, the event's line may be in
-// the file all the same. A later life with KeepEvents then restores the event, and sends it.
+// If the maximum number of events is waiting for EventCh, UserEvent waits for up to BroadcastTimeout and then returns
+// ErrBusy. After the node has ended, it returns ErrEnded. If the event is too large, the error names the limit. Other
+// errors are those of the proved agent. If UserEvent returns an error, the event was neither delivered here nor sent.
+// If the disk failed, however, the event's line may still be in the file. A later life with KeepEvents then restores
+// the event, and sends it.
 func (s *Serf) UserEvent(name string, payload []byte, coalesce bool) error {
 	_, err := s.Fire(name, payload, coalesce)
 	return err
@@ -219,12 +223,13 @@ func (s *Serf) Fire(name string, payload []byte, coalesce bool) (LamportTime, er
 	firing := firingPool.Get().(*firing)
 	defer firingPool.Put(firing)
 	firing.Firing, firing.time = Firing{append(firing.Name[:0], name...), payload, coalesce}, 0
-	return s.fire(nil, firing)
+	return s.fire(context.Background(), firing)
 }
 
-// FireContext is Fire that gives up when ctx is done. If it returns the error of ctx itself, such as context.Canceled, the event was not
-// fired. If the event's line is being flushed at that moment, the error is an UncertainError: whether the event is fired will only be known
-// after the flush. Serf has no such method.
+// FireContext is like Fire, but gives up when ctx is done. If it returns the error of ctx itself, such as
+// context.Canceled, the event was not fired. If the event's line is being flushed when ctx is done, FireContext returns
+// an UncertainError, because nobody can know before the end of the flush whether the event is fired. Serf has no such
+// method.
 func (s *Serf) FireContext(ctx context.Context, name string, payload []byte, coalesce bool) (LamportTime, error) {
 	if ctx.Done() == nil {
 		return s.Fire(name, payload, coalesce)
@@ -232,21 +237,17 @@ func (s *Serf) FireContext(ctx context.Context, name string, payload []byte, coa
 	if err := ctx.Err(); err != nil {
 		return 0, err
 	}
-	// (after an UncertainError, the firing and the copy of the payload are still in use)
+	// (after an UncertainError, the node still uses the firing and this copy of the payload)
 	copied := payload
 	if len(payload) > 0 {
 		copied = append([]byte(nil), payload...)
 	}
-	return s.fire(ctx, &firing{Firing: Firing{[]byte(name), copied, coalesce}, isDone: make(chan struct{}, 1)})
+	return s.fire(ctx, &firing{Firing: Firing{[]byte(name), copied, coalesce}, done: make(chan struct{}, 1)})
 }
 
-// fire fires an event, as soon as there is room. ctx is nil if the caller waits for the result in any case.
+// fire fires an event as soon as there is room. If ctx has no Done channel, fire waits for the result however long it takes.
 func (s *Serf) fire(ctx context.Context, firing *firing) (LamportTime, error) {
 	var timeout <-chan time.Time
-	var done <-chan struct{}
-	if ctx != nil {
-		done = ctx.Done()
-	}
 	for {
 		if s.pipe.isFull.Load() {
 			if timeout == nil {
@@ -260,43 +261,44 @@ func (s *Serf) fire(ctx context.Context, firing *firing) (LamportTime, error) {
 				return 0, ErrEnded
 			case <-timeout:
 				return 0, ErrBusy
-			case <-done:
+			case <-ctx.Done():
 				return 0, ctx.Err()
 			}
 		}
 		if err := s.fireAndWait(ctx, firing); err != ErrBusy {
-			return firing.timeUnless(err), s.fireError(firing, err)
+			return firing.timeOrZero(err), s.fireError(firing, err)
 		}
 	}
 }
 
-// timeUnless returns the event's time, unless it was not fired or somebody may still write it.
-func (f *firing) timeUnless(err error) LamportTime {
+// timeOrZero returns the event's time, or 0 if err isn't nil. After an error, either the event wasn't fired or another
+// goroutine may still set its time.
+func (f *firing) timeOrZero(err error) LamportTime {
 	if err != nil {
 		return 0
 	}
 	return f.time
 }
 
-// fireAndWait queues a firing and waits for its result, or until ctx is done if it isn't nil.
+// fireAndWait queues a firing and waits for its result, but no longer than until ctx is done.
 func (s *Serf) fireAndWait(ctx context.Context, firing *firing) error {
 	isLeader, ok := s.firings.add(firing)
 	if !ok {
 		return ErrEnded
 	}
-	if ctx == nil {
+	if ctx.Done() == nil {
 		if isLeader {
 			s.fireWaiting()
 		}
-		<-firing.isDone
+		<-firing.done
 		return firing.err
 	}
 	if isLeader {
-		// (fireAll fires in its place, since this goroutine may have to return before that)
+		// (this goroutine may have to return before the flush ends, so it lets fireAll fire)
 		signal(s.firings.ready)
 	}
 	select {
-	case <-firing.isDone:
+	case <-firing.done:
 		return firing.err
 	case <-ctx.Done():
 	}
@@ -304,7 +306,7 @@ func (s *Serf) fireAndWait(ctx context.Context, firing *firing) error {
 		return ctx.Err()
 	}
 	select {
-	case <-firing.isDone:
+	case <-firing.done:
 		return firing.err
 	default:
 		return &UncertainError{ctx.Err()}

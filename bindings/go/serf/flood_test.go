@@ -19,9 +19,11 @@ import (
 	"kitchenrue.example/serfagent"
 )
 
-// smallLimit is how many times a small agent remembers, and how many events of one time and answers of one query it accepts.
+// smallLimit is how many Lamport times a small agent remembers. The agent accepts the same number of events with one
+// time, and of answers to one query.
 const smallLimit = 16
 
+// smallAgent returns a proved agent in memory with small limits.
 func smallAgent(t *testing.T) Agent {
 	t.Helper()
 	settings := serfagent.DefaultSettings()
@@ -31,7 +33,7 @@ func smallAgent(t *testing.T) Agent {
 	return Proved(agent)
 }
 
-// Forged messages: an event, a query of a node that does not exist, an answer, and a state.
+// These functions return forged messages: an event, a query of a node that does not exist, an answer, and a state.
 
 type eventMessage struct {
 	LTime   uint64
@@ -72,6 +74,7 @@ type stateMessage struct {
 	QueryLTime   uint64
 }
 
+// forgedEvent and the functions below return packets that any program may send.
 func forgedEvent(at uint64, payload string) []byte {
 	return encode(eventMessage{LTime: at, Name: "flood", Payload: []byte(payload)}, eventType)
 }
@@ -93,8 +96,8 @@ func forgedState(clock uint64, slots int, payload func(slot int) string) []byte 
 	return encode(state, stateType)
 }
 
-// waitForMark sends an event with a new time and waits for it: then all packets and states before it are processed, and their events
-// delivered.
+// waitForMark sends an event with a new time and waits until it is delivered. By then, the node has processed all
+// earlier packets and states, and delivered their events.
 func (n *testNode) waitForMark(at uint64) {
 	n.t.Helper()
 	mark := fmt.Sprint("mark ", at)
@@ -105,7 +108,7 @@ func (n *testNode) waitForMark(at uint64) {
 	})
 }
 
-// Packets that are not valid messages.
+// malformedPackets are packets that are not valid messages.
 var malformedPackets = []string{
 	"\x63\x80", "\x03", "\x03\xc1", "\x03\x91\x91\x91\x91\x91\x91\x91\x91\x91\xc0", "\x03\x80\x00", "\x03\x07", "\x03\x81\x01\x01",
 	"\x03\x82\xa5LTime\x01\xa5LTime\x01", "\x03\x81\xa5LTime\xa1x", "\x05\x81\xa2ID\xcf\x00\x00\x00\x01\x00\x00\x00\x00",
@@ -132,7 +135,7 @@ func TestQueryForOthersIsRebroadcast(t *testing.T) {
 	}
 }
 
-// Of a flood of answers to a query, only as many wait as the agent counts and the channels have room for.
+// In a flood of answers to a query, only as many answers wait as the agent counts and the channels have room for.
 func TestFloodOfAnswers(t *testing.T) {
 	for name, test := range map[string]struct {
 		max  int
@@ -142,7 +145,7 @@ func TestFloodOfAnswers(t *testing.T) {
 		response, err := a.Query("who", nil, &QueryParam{Timeout: MaxTimeout, RequestAck: true})
 		must(t, err)
 		eventually(t, "the query is handed out", func() bool { return a.lastQuery("who") != nil })
-		query := a.lastQuery("who").handed
+		query := a.lastQuery("who").pending
 		for i := 0; i < 1500; i++ {
 			from := fmt.Sprint("nobody", i)
 			for flags := uint64(0); flags < 2; flags++ {
@@ -181,7 +184,7 @@ func TestFileOfFloodIsCompacted(t *testing.T) {
 	}
 }
 
-// An exhausted clock in the file makes the calls fail that need it, and everything else works.
+// If a clock in the file is exhausted, the calls that need this clock fail, and everything else works.
 func TestExhaustedClocks(t *testing.T) {
 	for clock, want := range map[string][2]error{"event-clock": {serfagent.Exhausted, nil}, "query-clock": {nil, serfagent.Exhausted}} {
 		folder := t.TempDir()
@@ -195,8 +198,9 @@ func TestExhaustedClocks(t *testing.T) {
 	}
 }
 
-// After a restart, a node whose file keeps events accepts what it missed, and nothing twice. A join that ignores old events loses only
-// those, and without the setting all events older than the newest are lost.
+// After a restart, a node whose file keeps events accepts the events that it missed, and accepts no event twice. If its
+// join ignores old events, the node loses only the missed ones. Without KeepEvents, it loses all events that are older
+// than the newest one.
 func TestRestartContinuesWindow(t *testing.T) {
 	var packets [][]byte
 	for i := uint64(1); i <= 4; i++ {
@@ -257,6 +261,7 @@ type flooder struct {
 	last            UserEvent
 }
 
+// receive counts an event or a query that the node delivered.
 func (f *flooder) receive(e Event) {
 	f.mu.Lock()
 	defer f.mu.Unlock()
@@ -266,18 +271,19 @@ func (f *flooder) receive(e Event) {
 		f.seen[fmt.Sprintf("%s %.20s", e.Name, e.Payload)]++
 	case *Query:
 		f.queries++
-		f.seen[fmt.Sprint("query ", e.LTime, e.handed.ID)]++
+		f.seen[fmt.Sprint("query ", e.LTime, e.pending.ID)]++
 	}
 }
 
-// lastIs reports whether the last event has this name or this payload.
-func (f *flooder) lastIs(text string) bool {
+// hasLast reports whether the last event has this name or this payload.
+func (f *flooder) hasLast(text string) bool {
 	f.mu.Lock()
 	defer f.mu.Unlock()
 	return f.last.Name == text || string(f.last.Payload) == text
 }
 
-func (f *flooder) payload(length int) string {
+// nextPayload returns a payload that no earlier one equals, with this number of further bytes.
+func (f *flooder) nextPayload(length int) string {
 	f.number++
 	return fmt.Sprintf("%019d ", f.number) + strings.Repeat("x", length)
 }
@@ -292,9 +298,9 @@ func (f *flooder) makeRound(count int) (packets [][]byte) {
 		rand.Read(garbage)
 		garbage[0] %= 12
 		packets = append(packets,
-			forgedEvent(at-at%64, f.payload(900)), forgedEvent(at, f.payload(900)), forgedEvent(at/2, f.payload(900)), forgedEvent(0, f.payload(900)),
-			forgedEvent(at, f.payload(9_900)), forgedEvent(2*FarTime+at, f.payload(9)), forgedQuery(at, id, 0), forgedQuery(at, id+1<<20, 1),
-			forgedAnswer(at, id, nobody, 0), forgedAnswer(at, id, nobody, 1), withTime("\x01\x82\xa5LTime", at, "\xa4Node\xb0"+f.payload(0)[4:]),
+			forgedEvent(at-at%64, f.nextPayload(900)), forgedEvent(at, f.nextPayload(900)), forgedEvent(at/2, f.nextPayload(900)), forgedEvent(0, f.nextPayload(900)),
+			forgedEvent(at, f.nextPayload(9_900)), forgedEvent(2*FarTime+at, f.nextPayload(9)), forgedQuery(at, id, 0), forgedQuery(at, id+1<<20, 1),
+			forgedAnswer(at, id, nobody, 0), forgedAnswer(at, id, nobody, 1), withTime("\x01\x82\xa5LTime", at, "\xa4Node\xb0"+f.nextPayload(0)[4:]),
 			[]byte(malformedPackets[i%len(malformedPackets)]), garbage, encodeRelay(relay{addr: net.IPv4(127, 0, 0, 9), port: 9, name: nobody, message: garbage}),
 		)
 	}
@@ -311,13 +317,13 @@ func (f *flooder) send(t *testing.T, a *testNode, packets, states [][]byte) {
 	for _, state := range states {
 		a.delegate().MergeRemoteState(state, false)
 	}
-	mark := f.payload(0)
+	mark := f.nextPayload(0)
 	a.delegate().NotifyMsg(forgedEvent(f.time, mark))
-	eventually(t, "all is processed", func() bool { return f.lastIs(mark) })
+	eventually(t, "all is processed", func() bool { return f.hasLast(mark) })
 }
 
-// A flood of each kind of packet: nothing is handed out twice, memory stays limited, pings are answered, an honest event still gets
-// through, and no goroutine is left after Shutdown.
+// During a flood of packets of each kind, nothing is handed out twice, memory use stays limited, and pings are
+// answered. After the flood, an honest event still arrives, and no goroutine is left after Shutdown.
 func TestFloodOfPackets(t *testing.T) {
 	const rounds, count = 15, 300
 	routines := runtime.NumGoroutine()
@@ -336,10 +342,10 @@ func TestFloodOfPackets(t *testing.T) {
 		for j := 0; j < count; j += 100 {
 			f.send(t, a, f.makeRound(100), nil)
 		}
-		state := func() []byte { return forgedState(f.time, 512, func(int) string { return f.payload(100) }) }
+		state := func() []byte { return forgedState(f.time, 512, func(int) string { return f.nextPayload(100) }) }
 		again := state()
 		f.send(t, a, nil, [][]byte{again, state(), again, state(), {2}, []byte(malformedPackets[12]), forgedEvent(f.time, "x")})
-		// (some over the network as well)
+		// (some packets are also sent over the network)
 		for _, packet := range f.makeRound(2) {
 			_ = b.memberlist().SendBestEffort(&to, packet)
 			_ = b.memberlist().SendReliable(&to, packet)
@@ -350,15 +356,15 @@ func TestFloodOfPackets(t *testing.T) {
 	}
 	nowGo, nowC := memoryUse(t)
 	t.Logf("Go's memory grew by %d bytes and C's by %d", nowGo-ofGo, nowC-ofC)
-	// (the packets have sixty mebibytes together, and the memory for counting them is included)
+	// (all packets together have sixty mebibytes, and the measured growth includes the memory for counting them)
 	if nowGo-ofGo > 16<<20 || nowC-ofC > 16<<20 {
 		t.Errorf("Go's memory grew by %d bytes, and C's by %d", nowGo-ofGo, nowC-ofC)
 	}
 	eventually(t, "an honest event arrives", func() bool {
 		// (on a busy machine b may receive an old state)
 		b.join(a)
-		check(t, b.UserEvent("honest", []byte(f.payload(0)), false))
-		return f.lastIs("honest")
+		check(t, b.UserEvent("honest", []byte(f.nextPayload(0)), false))
+		return f.hasLast("honest")
 	})
 	f.verify(t, a, rounds*count)
 	for _, node := range []*testNode{a, b} {
@@ -367,6 +373,8 @@ func TestFloodOfPackets(t *testing.T) {
 	eventually(t, "no goroutine is left", func() bool { return runtime.NumGoroutine() <= routines })
 }
 
+// verify checks that nothing was handed out twice, that each kind arrived at least min times, and that the node's
+// limits hold.
 func (f *flooder) verify(t *testing.T, a *testNode, min int) {
 	t.Helper()
 	f.mu.Lock()

@@ -22,7 +22,7 @@ func TestRepeatedIntentsAreNotSentOn(t *testing.T) {
 			a.delegate().NotifyMsg(packet)
 		}
 	}
-	// (intents are processed in their order, so all others are processed before this one is sent on)
+	// (intents are processed in order, so all others are processed before this one is sent on)
 	a.delegate().NotifyMsg(intentPacket(t, 100, "b", true))
 	eventually(t, "the last intent is processed", func() bool { return a.statusTime("b") == 100 })
 	eventually(t, "the last intent is sent on", func() bool { return a.intents.NumQueued() > len(first) })
@@ -31,7 +31,7 @@ func TestRepeatedIntentsAreNotSentOn(t *testing.T) {
 	}
 }
 
-// A relay goes to a member whose name, address and port are those of the relay.
+// A node relays a message only to a member with exactly the name, address and port in the relay.
 func TestRelaysNameMembersExactly(t *testing.T) {
 	a := startNode(t, "a", "", withAgent(&fakeAgent{}))
 	a.delegate().NotifyJoin(nodeB())
@@ -78,7 +78,7 @@ func TestStatesOfJoinsThatIgnoreOldEvents(t *testing.T) {
 	}
 }
 
-// LocalState returns the last state that was made, and not that of the start, if no new one is ready in time.
+// If no new state is ready in time, LocalState returns the last state that was encoded, and not the first one.
 func TestLastStateIsSentIfTheNextIsLate(t *testing.T) {
 	f := &fakeAgent{}
 	a := startNode(t, "a", "", withAgent(f))
@@ -96,19 +96,19 @@ func TestLastStateIsSentIfTheNextIsLate(t *testing.T) {
 	}
 }
 
-// All states that wait are merged before a call of the proved agent.
+// The node merges all waiting states before it makes a call of the proved agent.
 func TestAllWaitingStatesPrecedeACall(t *testing.T) {
 	conf := loopbackConfig("a")
 	conf.EventCh, conf.timeOfDay = make(chan Event), time.Now
 	s := &Serf{config: &conf, log: log.New(io.Discard, "", 0), agent: &failingAgent{}, states: newQueue(), pipe: newPipe(),
-		times: newSeenTimes(512, 0), eventNames: newNameCounter("events"), missedEvents: make(chan struct{}, 1)}
+		seenTimes: newSeenTimes(512, 0), eventNames: newNameCounter("events"), missedEvents: make(chan struct{}, 1)}
 	s.members = newMembers(&conf, s.log, func(MemberEvent) {}, func(string) {})
 	s.coalescer = newCoalescer(&conf, s.pipe.add)
 	for i := 0; i < 3; i++ {
 		s.states.add([]byte("\x02\x80"), false)
 	}
 	merged := 0
-	check(t, s.inOrder(func() error { merged = s.pipe.length(); return nil }))
+	check(t, s.useAgent(func() error { merged = s.pipe.length(); return nil }))
 	if merged != 3 {
 		t.Errorf("%d of 3 states were merged before", merged)
 	}
@@ -132,7 +132,8 @@ func TestConflictsOfOtherNames(t *testing.T) {
 	}
 }
 
-// A node continues if no other one answers which node has its name, and answers of nodes that know none of that name don't count.
+// If no other node answers the query about its name, a node continues. Answers of nodes that know no member of that
+// name don't count.
 func TestConflictsThatNobodyDecides(t *testing.T) {
 	alone := startNode(t, "a", "")
 	if err := alone.resolveConflict(); err != nil {
@@ -145,18 +146,18 @@ func TestConflictsThatNobodyDecides(t *testing.T) {
 	}
 }
 
-// A firing that finds no room when it is to be written is refused.
+// A firing is refused if there is no room when its burst begins.
 func TestFiringWithoutRoomIsRefused(t *testing.T) {
 	a := startNode(t, "a", "", withAgent(&fakeAgent{}))
 	a.fillPipe()
-	late := &firing{Firing: Firing{Name: []byte("late")}, isDone: make(chan struct{}, 1)}
+	late := &firing{Firing: Firing{Name: []byte("late")}, done: make(chan struct{}, 1)}
 	if _, ok := a.firings.add(late); !ok {
 		t.Fatal("the node accepts no firings")
 	}
-	a.order.Lock()
+	a.agentMu.Lock()
 	_, err := a.runBurst(nil)
-	a.order.Unlock()
-	<-late.isDone
+	a.agentMu.Unlock()
+	<-late.done
 	if err != nil || late.err != ErrBusy {
 		t.Error(err, late.err)
 	}
@@ -175,7 +176,7 @@ func (n *testNode) fillPipe() {
 	}
 }
 
-// A call that finds no room waits for it, up to BroadcastTimeout.
+// If there is no room for an event, UserEvent waits for room, up to BroadcastTimeout.
 func TestFiringWaitsForRoom(t *testing.T) {
 	a := startNode(t, "a", "", withAgent(&fakeAgent{}), func(o *nodeOptions) { o.BroadcastTimeout = 5 * time.Minute })
 	a.fillPipe()
@@ -219,12 +220,12 @@ func TestDropsAreReportedOnce(t *testing.T) {
 	}
 }
 
-// An intent that nobody claims is forgotten after its time, so that others can be held.
+// If the node of a held intent doesn't join in time, the intent is forgotten, so that others can be held.
 func TestOldHeldIntentsAreForgotten(t *testing.T) {
 	c := newTestMembers()
 	c.run("leaves old 3; leaves young 3")
 	held := c.intents["old"]
-	held.at = time.Now().Add(-2 * c.intentTimeout)
+	held.heldAt = time.Now().Add(-2 * c.intentTimeout)
 	c.intents["old"] = held
 	c.reap(time.Hour, time.Hour, time.Hour, false)
 	if _, hasYoung := c.intents["young"]; len(c.intents) != 1 || !hasYoung {
@@ -232,7 +233,7 @@ func TestOldHeldIntentsAreForgotten(t *testing.T) {
 	}
 }
 
-// A node that is leaving joins no failed member again.
+// A node that is leaving does not try to join failed members again.
 func TestLeavingNodeDoesNotReconnect(t *testing.T) {
 	for state, want := range map[SerfState]bool{SerfAlive: true, SerfLeaving: false} {
 		logs := &logBuffer{}
@@ -266,7 +267,7 @@ func TestSeveralMembersAreAskedForMissedEvents(t *testing.T) {
 	eventually(t, "three members are asked", func() bool { return logs.count("no state was exchanged with m") == maxFruitlessIfComplete })
 }
 
-// A query that is answered in time goes through the relays that the caller of KeyManager names.
+// A query about keys has the relay factor that the caller of KeyManager chose.
 func TestKeyQueriesHaveTheirRelays(t *testing.T) {
 	f := &queryingAgent{}
 	a := startNode(t, "a", "", withAgent(f))

@@ -8,9 +8,10 @@ import (
 	"strings"
 )
 
-// Lines of this package about handlers, next to those of the library: how the handlers of an event ended (`#ran`), and which process one of
-// them was (`#process`). The library skips them, as it skips each line that begins with # and another word (docs/SPEC.md). docs/HOST.md has
-// their format.
+// These are the prefixes of lines in the snapshot. In addition to the library's lines, this package writes lines that
+// say how the handlers of an event ended (`#ran`) and which process runs a handler (`#process`). The library skips
+// these two kinds, as it skips each line that begins with # and a word that it doesn't know (docs/SPEC.md).
+// docs/HOST.md describes their format.
 const (
 	openPrefix    = "#open "
 	begunPrefix   = "#begun "
@@ -19,8 +20,8 @@ const (
 	processPrefix = "#process "
 )
 
-// The words of HandlerRun.Status for a handler that did not end by itself. All others are exit statuses in decimal digits, and for a handler
-// that a signal ended RanSignal with the number of the signal.
+// These are the values of HandlerRun.Status for a handler that did not exit by itself. If a signal ended the handler,
+// the number of the signal follows RanSignal. All other values are exit statuses in decimal digits.
 const (
 	RanSignal       = "signal-"
 	RanTimedOut     = "timed-out"
@@ -29,7 +30,7 @@ const (
 	RanStillRunning = "still-running"
 )
 
-// HandlerRun is how a handler of an event ended.
+// HandlerRun says how a handler of an event ended.
 type HandlerRun struct {
 	// Handler is the name of the handler, or empty if it is not known.
 	Handler string
@@ -40,7 +41,7 @@ type HandlerRun struct {
 // maxWordLength is the maximum length in bytes of a handler's name and of a status in a line.
 const maxWordLength = 128
 
-// lineWord returns a text in the form in which a line has it: other characters than letters, digits and .:_- are replaced by _.
+// lineWord returns a text as one word of a line. It replaces each character other than letters, digits and .:_- by _.
 func lineWord(text string) string {
 	if len(text) > maxWordLength {
 		text = text[:maxWordLength]
@@ -53,12 +54,14 @@ func lineWord(text string) string {
 	}, text)
 }
 
-// keyWords returns an event's time, its name and its payload in hex, as the lines about it have them.
+// keyWords returns the words that identify an event in a line: its time in decimal digits, and its name and its payload
+// in hex.
 func (k eventKey) keyWords() string {
 	return strconv.FormatUint(uint64(k.time), 10) + " " + hex.EncodeToString([]byte(k.name)) + " " + hex.EncodeToString([]byte(k.payload))
 }
 
-// ranLine returns the line that says how the handlers of an event ended. Without runs it says that they began, and not how they ended.
+// ranLine returns the line that says how the handlers of an event ended. If there are no runs, the line says only that
+// handlers began.
 func ranLine(key eventKey, runs []HandlerRun) string {
 	var line strings.Builder
 	line.WriteString(ranPrefix + key.keyWords())
@@ -68,12 +71,13 @@ func ranLine(key eventKey, runs []HandlerRun) string {
 	return line.String() + "\n"
 }
 
-// ranAfterLine returns the line that says that the file has the `#ran` lines of all later events whose handlers began.
-func ranAfterLine(time LamportTime) string {
+// completeAfterLine returns a line that makes a promise about all events later than this time: if a handler of such an event
+// began and the event is done, the file has its `#ran` line.
+func completeAfterLine(time LamportTime) string {
 	return ranPrefix + strconv.FormatUint(uint64(time), 10) + "\n"
 }
 
-// processLine returns the line that says which process a handler of an event is.
+// processLine returns the line that says which process runs a handler of an event.
 func processLine(key eventKey, process HandlerProcess) string {
 	return processPrefix + key.keyWords() + " " + lineWord(process.Handler) + " " + strconv.Itoa(process.PID) + " " +
 		strconv.FormatUint(process.Start, 10) + " " + lineWord(process.Boot) + "\n"
@@ -118,31 +122,34 @@ func parseProcess(words []string) (process HandlerProcess, ok bool) {
 	return HandlerProcess{words[0], int(pid), start, words[3]}, true
 }
 
-// handlerText is what a text says of handlers, in addition to what the library reads from it.
+// handlerText has the information about handlers that this package reads from a snapshot's text. The library reads the
+// rest.
 type handlerText struct {
 	// events are the events that the text names, in the order of their first lines.
 	events []eventKey
-	// begun counts the `#begun` lines of an event. runs are those of its last `#ran` line, and process that of its last `#process` line.
-	begun   map[eventKey]int
-	runs    map[eventKey][]HandlerRun
-	process map[eventKey]HandlerProcess
-	// ended are the events with a `#done` or a `#ran` line, in the order of their first ones.
+	// begunCounts counts the `#begun` lines of each event. runs has the runs of its last `#ran` line, and processes the
+	// process of its last `#process` line.
+	begunCounts map[eventKey]int
+	runs        map[eventKey][]HandlerRun
+	processes   map[eventKey]HandlerProcess
+	// ended has the events with a `#done` or a `#ran` line, in the order in which the first of these lines appears.
 	ended []eventKey
-	// ranAfter is the time of the last line of ranAfterLine. hasRanAfter is false if there is none.
-	ranAfter    LamportTime
-	hasRanAfter bool
-	// minimum is the smallest time whose events are all in the text.
+	// completeAfter is the time in the last line of the kind that completeAfterLine returns. hasCompleteAfter is false if the text has
+	// no such line.
+	completeAfter    LamportTime
+	hasCompleteAfter bool
+	// minimum is the smallest time from which on the text has all events.
 	minimum LamportTime
 }
 
-// readHandlerText reads a text. As for the library, the lines before the first line `#done TIME` say nothing of handlers, and a last line
-// without a newline is none.
+// readHandlerText reads the text of a snapshot. Like the library, it ignores lines about handlers before the first line
+// `#done TIME`, and a last line without a newline.
 func readHandlerText(text []byte) *handlerText {
-	t := &handlerText{begun: map[eventKey]int{}, runs: map[eventKey][]HandlerRun{}, process: map[eventKey]HandlerProcess{}, minimum: 1}
+	t := &handlerText{begunCounts: map[eventKey]int{}, runs: map[eventKey][]HandlerRun{}, processes: map[eventKey]HandlerProcess{}, minimum: 1}
 	known, hasEnded, isTracked := map[eventKey]bool{}, map[eventKey]bool{}, false
-	for end := bytes.IndexByte(text, '\n'); end >= 0; end = bytes.IndexByte(text, '\n') {
-		line := text[:end]
-		text = text[end+1:]
+	for lineEnd := bytes.IndexByte(text, '\n'); lineEnd >= 0; lineEnd = bytes.IndexByte(text, '\n') {
+		line := text[:lineEnd]
+		text = text[lineEnd+1:]
 		prefix, words := handlerWords(line)
 		switch {
 		case prefix == "":
@@ -155,7 +162,7 @@ func readHandlerText(text []byte) *handlerText {
 			continue
 		}
 		key, rest, ok := parseKey(words)
-		if !ok || !t.apply(prefix, key, rest) {
+		if !ok || !t.applyEventLine(prefix, key, rest) {
 			continue
 		}
 		if !known[key] {
@@ -170,10 +177,11 @@ func readHandlerText(text []byte) *handlerText {
 	return t
 }
 
-// handlerPrefixes are the beginnings of the lines about an event.
+// handlerPrefixes are the prefixes of the lines about an event.
 var handlerPrefixes = []string{eventPrefix, openPrefix, begunPrefix, donePrefix, ranPrefix, processPrefix}
 
-// handlerWords returns the prefix of a line about an event, and the words after it. The prefix of another line is empty.
+// handlerWords returns the prefix of a line about an event, and the words after the prefix. For any other line, the
+// prefix is empty.
 func handlerWords(line []byte) (prefix string, words []string) {
 	for _, prefix := range handlerPrefixes {
 		if bytes.HasPrefix(line, []byte(prefix)) {
@@ -183,8 +191,9 @@ func handlerWords(line []byte) (prefix string, words []string) {
 	return "", nil
 }
 
-// applyMinimum raises the minimum by a line that says that earlier events are not kept: that of a minimum, or a clock line without a zero in
-// front, up to whose time everything counts as handed out.
+// applyMinimum raises the minimum if a line says that the file does not keep earlier events. This is either a minimum's
+// line or a clock line whose time has no leading zero: all events up to the time of such a clock line count as handed
+// out.
 func (t *handlerText) applyMinimum(line []byte) {
 	isMinimum, isClock := bytes.HasPrefix(line, []byte(eventMinimumPrefix)), bytes.HasPrefix(line, []byte(eventClockPrefix))
 	if !isMinimum && !isClock {
@@ -206,19 +215,19 @@ func (t *handlerText) applyMinimum(line []byte) {
 	}
 }
 
-// applyTime applies a line that has only a time. It returns whether handlers are tracked from this line on.
+// applyTime applies a line that has only a time. It returns whether the file tracks handlers from this line on.
 func (t *handlerText) applyTime(prefix, word string, isTracked bool) bool {
 	if word == "" || strings.Trim(word, "0123456789") != "" {
 		return isTracked
 	}
 	if time, err := strconv.ParseUint(word, 10, 64); prefix == ranPrefix && isTracked && err == nil {
-		t.ranAfter, t.hasRanAfter = LamportTime(time), true
+		t.completeAfter, t.hasCompleteAfter = LamportTime(time), true
 	}
 	return isTracked || prefix == donePrefix
 }
 
-// apply applies a line about an event. It reports whether the line has the form of its kind.
-func (t *handlerText) apply(prefix string, key eventKey, rest []string) (ok bool) {
+// applyEventLine applies a line about an event. It returns false if the line doesn't have the form of its kind.
+func (t *handlerText) applyEventLine(prefix string, key eventKey, rest []string) (ok bool) {
 	switch prefix {
 	case ranPrefix:
 		var runs []HandlerRun
@@ -229,12 +238,12 @@ func (t *handlerText) apply(prefix string, key eventKey, rest []string) (ok bool
 	case processPrefix:
 		var process HandlerProcess
 		if process, ok = parseProcess(rest); ok {
-			t.process[key] = process
+			t.processes[key] = process
 		}
 		return ok
 	case begunPrefix:
 		if len(rest) == 0 {
-			t.begun[key]++
+			t.begunCounts[key]++
 		}
 	}
 	return len(rest) == 0

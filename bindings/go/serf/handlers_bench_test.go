@@ -6,9 +6,9 @@ import (
 	"testing"
 )
 
-// fileOf opens a node's file and handles the events of the benchmark, without a network. It returns the largest size of the file, and its size
+// measureFile opens a node's file and handles the events of the benchmark, without a network. It returns the largest size of the file, and its size
 // after a compaction.
-func fileOf(b *testing.B, isTracked bool, payload []byte) (largest, compacted int64) {
+func measureFile(b *testing.B, isTracked bool, payload []byte) (largest, compacted int64) {
 	c := loopbackConfig("a")
 	events := make(chan Event, Waiting)
 	c.EventCh, c.SnapshotPath, c.KeepEvents, c.TrackHandlers = events, b.TempDir()+"/snapshot", true, isTracked
@@ -49,7 +49,7 @@ func fileOf(b *testing.B, isTracked bool, payload []byte) (largest, compacted in
 		}
 	}
 	size()
-	if err := s.inOrder(func() error { return s.snapshot.compact(nil, s.compactLibrary) }); err != nil {
+	if err := s.useAgent(func() error { return s.snapshot.compact(nil, s.compactLibrary) }); err != nil {
 		b.Fatal(err)
 	}
 	compacted = size()
@@ -65,7 +65,7 @@ func BenchmarkFile(b *testing.B) {
 		for _, tracking := range []string{"untracked", "tracked"} {
 			payload, isTracked := payload, tracking == "tracked"
 			b.Run(name+"/"+tracking, func(b *testing.B) {
-				largest, compacted := fileOf(b, isTracked, payload)
+				largest, compacted := measureFile(b, isTracked, payload)
 				b.ReportMetric(float64(largest)/1024, "max-KiB")
 				b.ReportMetric(float64(compacted)/1024, "compacted-KiB")
 			})

@@ -8,8 +8,8 @@ import (
 	"kitchenrue.example/serfagent"
 )
 
-// answerInternalQueries answers the queries that agents send each other. It writes key changes to their file, and nothing else waits for
-// that.
+// answerInternalQueries answers the queries that agents send each other. It writes changes of the keys to the keyring
+// file, and no other goroutine waits for these writes.
 func (s *Serf) answerInternalQueries() {
 	for {
 		select {
@@ -21,13 +21,13 @@ func (s *Serf) answerInternalQueries() {
 	}
 }
 
-// answerInternalQuery answers one of them.
+// answerInternalQuery answers one internal query.
 func (s *Serf) answerInternalQuery(query *serfagent.PendingQuery) {
 	suffix := strings.TrimPrefix(string(query.Name), InternalQueryPrefix)
 	var payload []byte
 	switch command := keyCommand(suffix); {
 	case suffix == "ping":
-		// (a ping needs no response, only its ack)
+		// (a ping needs only its ack, and no response)
 		return
 	case suffix == "conflict":
 		name := string(query.Payload)
@@ -67,10 +67,11 @@ func (s *Serf) resolveConflicts() {
 	}
 }
 
-// isMajority reports whether the matching answers are more than all others. At a tie both nodes of a name end.
+// isMajority reports whether more than half of the answers match. If exactly half of them match, both nodes with the
+// name end.
 func isMajority(matching, answers int) bool { return matching > answers/2 }
 
-// resolveConflict asks once, and returns an error if this node has to end.
+// resolveConflict asks the other nodes once, and returns an error if this node has to end.
 func (s *Serf) resolveConflict() error {
 	self := s.memberlist().LocalNode()
 	query, err := s.fireQuery(InternalQueryPrefix+"conflict", []byte(self.Name), QueryParam{})

@@ -13,11 +13,13 @@ import (
 	"kitchenrue.example/serfagent"
 )
 
-// announceRetryDelay is the delay before a join intent for which there was no memory is sent again.
+// announceRetryDelay is how long to wait before trying again to send a join intent, if memory ran out.
 const announceRetryDelay = time.Second
 
-// Join joins nodes by address, by name or by name/address, and returns how many were joined. With ignoreOld, earlier events are ignored.
-// The join intent is sent soon after: it has to wait for the disk, but Join does not. Join returns an error only if no node was joined.
+// Join joins the cluster through nodes that are given by address, by name or as name/address, and returns how many of
+// them it has joined. If ignoreOld is true, this node ignores events that were fired before. The node sends its join
+// intent soon after; the intent has to wait for the disk, but Join does not. Join returns an error only if it has
+// joined no node.
 func (s *Serf) Join(existing []string, ignoreOld bool) (int, error) {
 	if s.State() != SerfAlive {
 		return 0, ErrLeft
@@ -28,7 +30,7 @@ func (s *Serf) Join(existing []string, ignoreOld bool) (int, error) {
 	}
 	count, err := s.memberlist().Join(existing)
 	if count > 0 {
-		// (at least one was joined, so errors for the others don't matter)
+		// (at least one node was joined, so errors for the others don't matter)
 		signal(s.announceNeeded)
 		signal(s.missedEvents)
 		return count, nil
@@ -36,9 +38,9 @@ func (s *Serf) Join(existing []string, ignoreOld bool) (int, error) {
 	return 0, err
 }
 
-// JoinContext is Join that gives up when ctx is done: then it returns how many nodes were joined until then, and the error of ctx. It tries
-// no further address after that, but memberlist can't give up the one that it is trying, so that node may still be joined. Serf has no such
-// method.
+// JoinContext is like Join, but gives up when ctx is done. It then returns how many nodes it has joined so far, and the
+// error of ctx. It tries no further address after that. However, memberlist can't abort the attempt that is running, so
+// that node may still be joined. Serf has no such method.
 func (s *Serf) JoinContext(ctx context.Context, existing []string, ignoreOld bool) (int, error) {
 	if s.State() != SerfAlive {
 		return 0, ErrLeft
@@ -78,7 +80,8 @@ func (s *Serf) JoinContext(ctx context.Context, existing []string, ignoreOld boo
 	return count, nil
 }
 
-// announceJoins sends a join intent whenever this node has joined, or has to refute that it left.
+// announceJoins sends a join intent whenever this node has joined other nodes, and whenever it has to refute that it
+// left.
 func (s *Serf) announceJoins() {
 	for {
 		select {
@@ -86,7 +89,7 @@ func (s *Serf) announceJoins() {
 			return
 		case <-s.announceNeeded:
 		case <-s.refuteNeeded:
-			if !s.members.hasToRefute() {
+			if !s.members.mustRefuteLeave() {
 				continue
 			}
 			s.log.Print("[DEBUG] serf: Refuting an older leave intent")
@@ -101,7 +104,8 @@ func (s *Serf) announceJoins() {
 	}
 }
 
-// refuteLeave sends a new join intent, because others say that this node left, unless a later one was sent meanwhile.
+// refuteLeave makes announceJoins send a new join intent, because other nodes wrongly believe that this node left.
+// announceJoins skips it if the node has sent a later join intent in the meantime.
 func (s *Serf) refuteLeave() {
 	if s.State() == SerfAlive {
 		signal(s.refuteNeeded)
@@ -110,8 +114,8 @@ func (s *Serf) refuteLeave() {
 
 // announce sends a join intent, unless the node is leaving: no join intent may follow its leave intent.
 func (s *Serf) announce() error {
-	s.announcing.Lock()
-	defer s.announcing.Unlock()
+	s.announceMu.Lock()
+	defer s.announceMu.Unlock()
 	if s.State() != SerfAlive {
 		return nil
 	}
@@ -121,7 +125,7 @@ func (s *Serf) announce() error {
 
 // broadcastIntent sends an intent with the next member time, and applies it here too.
 func (s *Serf) broadcastIntent(intent serfagent.Intent) (sent chan struct{}, err error) {
-	err = s.inOrder(func() (err error) {
+	err = s.useAgent(func() (err error) {
 		intent.Time, err = s.agent.NextMemberTime()
 		return err
 	})
@@ -146,8 +150,8 @@ func (s *Serf) broadcastIntent(intent serfagent.Intent) (sent chan struct{}, err
 	return sent, nil
 }
 
-// joinAddress returns an address for memberlist's Join, with the node's name. It leaves out a name with a slash, since memberlist would
-// look up what follows the slash.
+// joinAddress returns an address for memberlist's Join, with the node's name. If the name contains a slash, joinAddress
+// leaves it out, since memberlist would look up the text after the slash as an address.
 func joinAddress(name, addr string) string {
 	if name == "" || strings.Contains(name, "/") {
 		return addr
@@ -155,11 +159,11 @@ func joinAddress(name, addr string) string {
 	return name + "/" + addr
 }
 
-// rejoin joins one of the members that the snapshot has as alive: the first that can be reached, in random order. It does not ignore old
-// events, since the snapshot says which events are old.
+// rejoin joins one of the members that were alive according to the snapshot. It tries them in random order, until it
+// reaches one. It does not ignore old events, since the snapshot says which events are old.
 func (s *Serf) rejoin() {
 	var addrs []string
-	for _, previous := range s.previous {
+	for _, previous := range s.previousNodes {
 		if previous.Name != s.config.NodeName {
 			addrs = append(addrs, joinAddress(previous.Name, previous.Addr))
 		}
@@ -180,8 +184,9 @@ func (s *Serf) rejoin() {
 	}
 }
 
-// IsGoingOn reports whether the node's file keeps events and comes from an earlier life, so that it says which events are old. The first
-// join should then accept the events that the other nodes received meanwhile: with ignoreOld they would be lost. Serf has no such method.
+// IsGoingOn reports whether the node continues an earlier life whose snapshot keeps events. In that case the snapshot
+// says which events are old, so the first join should be made without ignoreOld: otherwise the node would lose the
+// events that the other nodes received in the meantime. Serf has no such method.
 func (s *Serf) IsGoingOn() bool {
 	if !s.config.KeepEvents || s.snapshot == nil {
 		return false
@@ -189,7 +194,7 @@ func (s *Serf) IsGoingOn() bool {
 	if s.snapshot.marksOldEvents {
 		return true
 	}
-	for _, previous := range s.previous {
+	for _, previous := range s.previousNodes {
 		if previous.Name != s.config.NodeName {
 			return true
 		}
@@ -197,9 +202,9 @@ func (s *Serf) IsGoingOn() bool {
 	return false
 }
 
-// Leave sends a leave intent and leaves the cluster. After it, the only thing to do with the node is Shutdown. If the intent can't be sent,
-// the node continues as before, and Leave may be called again. After a successful Leave a second call does nothing; while one is running,
-// another is refused.
+// Leave sends a leave intent and leaves the cluster. After a successful Leave, call Shutdown; the node is of no other
+// use. If Leave can't send the intent, the node continues as before, and you may call Leave again. After a successful
+// Leave, a second call does nothing. While a call is running, another one is refused.
 func (s *Serf) Leave() error {
 	s.stateMu.Lock()
 	switch s.state {
@@ -237,7 +242,8 @@ func (s *Serf) Leave() error {
 	return nil
 }
 
-// leaveMemberlist makes memberlist leave. If the node was shut down meanwhile, memberlist panics, and leaveMemberlist returns ErrEnded.
+// leaveMemberlist makes memberlist leave the cluster. If the node was shut down in the meantime, memberlist panics, and
+// leaveMemberlist returns ErrEnded.
 func (s *Serf) leaveMemberlist() (err error) {
 	defer func() {
 		switch value := recover(); value {
@@ -251,11 +257,11 @@ func (s *Serf) leaveMemberlist() (err error) {
 	return s.memberlist().Leave(s.config.BroadcastTimeout)
 }
 
-// announceLeave sends a leave intent. If that fails, the node does not leave, and sends a join intent in place of one that was held back
-// meanwhile.
+// announceLeave sends a leave intent. If that fails, the node does not leave. It then sends a join intent, because it
+// may have held one back while it was leaving.
 func (s *Serf) announceLeave() (sent chan struct{}, err error) {
-	s.announcing.Lock()
-	defer s.announcing.Unlock()
+	s.announceMu.Lock()
+	defer s.announceMu.Unlock()
 	sent, err = s.broadcastIntent(serfagent.Intent{Node: []byte(s.config.NodeName), Leave: true})
 	if err != nil {
 		s.stateMu.Lock()
@@ -268,9 +274,10 @@ func (s *Serf) announceLeave() (sent chan struct{}, err error) {
 	return sent, err
 }
 
-// waitFor waits until done is closed, for a limited time or until the node ends, and reports whether done was closed.
-func (s *Serf) waitFor(done <-chan struct{}, patience time.Duration) bool {
-	timeout := time.NewTimer(patience)
+// waitFor waits until done is closed, but no longer than maxWait, and not after the node has ended. It reports whether
+// done was closed.
+func (s *Serf) waitFor(done <-chan struct{}, maxWait time.Duration) bool {
+	timeout := time.NewTimer(maxWait)
 	defer timeout.Stop()
 	select {
 	case <-done:
@@ -281,19 +288,20 @@ func (s *Serf) waitFor(done <-chan struct{}, patience time.Duration) bool {
 	return false
 }
 
-// RemoveFailedNode makes a failed member a member that left.
+// RemoveFailedNode makes all nodes treat a failed member as one that left.
 func (s *Serf) RemoveFailedNode(node string) error { return s.forceLeave(node, false) }
 
-// RemoveFailedNodePrune makes a member one that left, and makes all nodes forget it. A failed member is forgotten at once. One that still
-// looks alive is forgotten after BroadcastTimeout and LeavePropagateDelay, unless it refutes that it leaves.
+// RemoveFailedNodePrune makes all nodes treat a member as one that left, and forget it. They forget a failed member at
+// once. If the member still seems to be alive, they forget it after BroadcastTimeout and LeavePropagateDelay, unless it
+// refutes the leave.
 func (s *Serf) RemoveFailedNodePrune(node string) error { return s.forceLeave(node, true) }
 
 // forceLeave sends a leave intent for another member.
-func (s *Serf) forceLeave(name string, isPruning bool) error {
+func (s *Serf) forceLeave(name string, prune bool) error {
 	if name == s.config.NodeName {
 		return errors.New("this is the name of the node itself: to leave, call Leave")
 	}
-	sent, err := s.broadcastIntent(serfagent.Intent{Node: []byte(name), Leave: true, Prune: isPruning})
+	sent, err := s.broadcastIntent(serfagent.Intent{Node: []byte(name), Leave: true, Prune: prune})
 	if err != nil {
 		return err
 	}
@@ -310,7 +318,8 @@ func (s *Serf) ownTags() map[string]string {
 	return s.tags
 }
 
-// nodeMeta encodes tags as the metadata that memberlist sends with a node: at protocol 2 the role alone.
+// nodeMeta encodes tags as the metadata that memberlist sends with a node. With protocol version 2, that is only the
+// role.
 func (c *Config) nodeMeta(tags map[string]string) ([]byte, error) {
 	if c.ProtocolVersion >= 3 {
 		return encodeTags(tags)
@@ -321,7 +330,8 @@ func (c *Config) nodeMeta(tags map[string]string) ([]byte, error) {
 	return []byte(tags["role"]), nil
 }
 
-// SetTags changes this node's tags and sends them to the others. Tags that are too long change nothing.
+// SetTags changes this node's tags and sends them to the other nodes. If the tags are too long, it returns an error and
+// changes nothing.
 func (s *Serf) SetTags(tags map[string]string) error {
 	copied := make(map[string]string, len(tags))
 	for key, value := range tags {
@@ -351,7 +361,7 @@ func (s *Serf) reap() {
 		case <-ticker.C:
 			refuteTime := s.config.BroadcastTimeout + s.config.LeavePropagateDelay
 			s.members.reap(s.config.ReconnectTimeout, s.config.TombstoneTimeout, refuteTime, s.State() == SerfLeft)
-			s.coordinates.retain(s.members.all())
+			s.coordinates.retain(s.members.sorted())
 		}
 	}
 }

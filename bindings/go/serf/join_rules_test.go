@@ -18,11 +18,11 @@ func (l *logBuffer) count(text string) int { return strings.Count(l.String(), te
 
 func (l *logBuffer) contains(text string) bool { return l.count(text) > 0 }
 
-// mergeDelegate refuses a name, and keeps what it was asked.
+// mergeDelegate refuses members with one name, and records the members about which it was asked.
 type mergeDelegate struct {
-	refused string
-	mu      sync.Mutex
-	asked   []string
+	refusedName string
+	mu          sync.Mutex
+	asked       []string
 }
 
 var errRefused = errors.New("the name is refused")
@@ -32,16 +32,16 @@ func (m *mergeDelegate) NotifyMerge(members []*Member) error {
 	defer m.mu.Unlock()
 	for _, member := range members {
 		m.asked = append(m.asked, member.Name+" "+member.Status.String())
-		if member.Name == m.refused {
+		if member.Name == m.refusedName {
 			return errRefused
 		}
 	}
 	return nil
 }
 
-// Merge decides about nodes of a join and of gossip, and sees which of them left.
+// Config.Merge decides about nodes from a join and from gossip, and can see which of them left.
 func TestMergeDelegateDecides(t *testing.T) {
-	merge := &mergeDelegate{refused: "b"}
+	merge := &mergeDelegate{refusedName: "b"}
 	a := startNode(t, "a", "", withAgent(&fakeAgent{}), func(o *nodeOptions) { o.Merge = merge })
 	alive := a.config.MemberlistConfig.Alive
 	if alive == nil {
@@ -91,7 +91,7 @@ func TestRejoinTriesAll(t *testing.T) {
 	eventually(t, "it has rejoined", func() bool { return a.statusOf("b") == "alive" })
 }
 
-// mergeRecorder is a fakeAgent that keeps how the first states were merged.
+// mergeRecorder is a fakeAgent that records whether the first states were merged without their old events.
 type mergeRecorder struct {
 	fakeAgent
 	ignoresOld chan bool
@@ -105,7 +105,7 @@ func (m *mergeRecorder) Merge(_ []byte, ignoresOld bool) ([]*serfagent.Event, er
 	return nil, nil
 }
 
-// A node that rejoins by its file accepts the events that the others received meanwhile.
+// A node that rejoins the members of its file accepts the events that the others received in the meantime.
 func TestRejoinAcceptsOldEvents(t *testing.T) {
 	b, agent := startNode(t, "b", ""), &mergeRecorder{ignoresOld: make(chan bool, 1)}
 	startNode(t, "a", "", withAgent(agent), withPrevious(PreviousNode{"b", b.address()}))
@@ -130,7 +130,7 @@ func TestOwnFiltersUseNewTags(t *testing.T) {
 			eventually(t, "the query by the new tag is handed out", func() bool { return a.lastQuery("db") != nil })
 		}
 	}
-	// (a query that is fired here is handed out, if at all, before the call returns)
+	// (if a query that this node fires is handed out here, that happens before the call returns)
 	must(t, a.UserEvent("mark", nil, false))
 	eventually(t, "what was handed out is delivered", func() bool { return len(a.payloads("mark")) == 1 })
 	if a.lastQuery("web") != nil {

@@ -32,18 +32,18 @@ func TestNoJoinIntentAfterLeave(t *testing.T) {
 	must(t, b.Leave())
 	before, err := b.agent.Clocks()
 	must(t, err)
-	for _, say := range []func() error{b.announce, func() error { b.refuteLeave(); return nil }, func() error { signal(b.announceNeeded); return nil }} {
-		check(t, say())
+	for _, request := range []func() error{b.announce, func() error { b.refuteLeave(); return nil }, func() error { signal(b.announceNeeded); return nil }} {
+		check(t, request())
 	}
 	eventually(t, "the request for a join intent was read", func() bool { return len(b.announceNeeded) == 0 })
-	b.announcing.Lock()
-	defer b.announcing.Unlock()
+	b.announceMu.Lock()
+	defer b.announceMu.Unlock()
 	if after, err := b.agent.Clocks(); err != nil || after.Member != before.Member {
 		t.Error(before, after, err)
 	}
 }
 
-// No join intent refutes a leave if a later one was sent meanwhile.
+// A node sends no join intent to refute a leave if it has sent a later join intent in the meantime.
 func TestLeavesAreRefutedOnce(t *testing.T) {
 	a, b := startPair(t)
 	b.delegate().NotifyMsg(intentPacket(t, 100, "b", true))
@@ -54,17 +54,17 @@ func TestLeavesAreRefutedOnce(t *testing.T) {
 		b.refuteLeave()
 		eventually(t, "the request for a join intent was read", func() bool { return len(b.refuteNeeded) == 0 })
 	}
-	// (the last request is being processed, or was)
+	// (the node may still be processing the last request)
 	time.Sleep(200 * time.Millisecond)
 	if after, err := b.agent.Clocks(); err != nil || after.Member != before.Member {
 		t.Error(before, after, err)
 	}
 }
 
-// A leave that waits until its intent is sent ends if the node is shut down meanwhile.
+// If the node is shut down while Leave waits until its intent is sent, Leave returns.
 func TestLeaveDuringShutdown(t *testing.T) {
 	a := startNode(t, "a", "", withAgent(&fakeAgent{}), func(o *nodeOptions) {
-		// (nothing is ever sent)
+		// (without gossip, the node never sends the intent)
 		o.MemberlistConfig.GossipInterval, o.BroadcastTimeout = 0, time.Hour
 	})
 	a.delegate().NotifyJoin(nodeB())

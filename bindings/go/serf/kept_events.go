@@ -20,38 +20,41 @@ const (
 // compactCheckGrowth is how many bytes the file may grow before the node checks whether to compact it.
 const compactCheckGrowth = 1 << 20
 
-// The beginning of an event's line, and how many bytes the line has in addition to the name and the payload, each byte of which takes two
-// (docs/SPEC.md).
+// eventPrefix begins the line of an event. eventOverhead is how many bytes the line has in addition to the name and the
+// payload, which take two hex digits per byte (docs/SPEC.md).
 const (
 	eventPrefix   = "#event "
 	eventOverhead = 30
 )
 
-// keptEvents limits how many bytes the kept events use in the file and in memory. Half of the limit is common to all times. The other half
-// is divided equally among the times that are kept, so a flood of some times takes nothing from the others.
+// keptEvents limits how many bytes the kept events use in the file and in memory. All times share half of the limit.
+// The other half is divided equally among the times of the window, so a flood of events at some times takes nothing
+// from the shares of the others.
 //
-// It counts what it passes to the proved agent. If the agent ignores some of these events, less is kept than is counted.
+// keptEvents counts the events that it lets pass to the proved agent. If the agent ignores some of them, fewer bytes
+// are kept than keptEvents has counted.
 type keptEvents struct {
 	mu sync.Mutex
-	// timeShare is how many bytes each time has for itself, and commonRoom how many bytes of the common half are left.
-	timeShare, commonRoom int64
+	// timeShare is how many bytes are reserved for each time, and sharedRoom is how many bytes of the shared half are
+	// left.
+	timeShare, sharedRoom int64
 	slots                 []keptTime
 	seed                  maphash.Seed
 }
 
-// keptTime has what was counted of one time: the bytes, and the hashes of the events.
+// keptTime has the counted bytes of one time, and the hashes of its counted events.
 type keptTime struct {
-	time  uint64
-	bytes int64
-	known map[uint64]struct{}
+	time   uint64
+	bytes  int64
+	hashes map[uint64]struct{}
 }
 
 func newKeptEvents(limit int64, times int) *keptEvents {
-	return &keptEvents{timeShare: limit / 2 / int64(times), commonRoom: limit / 2, slots: make([]keptTime, times), seed: maphash.MakeSeed()}
+	return &keptEvents{timeShare: limit / 2 / int64(times), sharedRoom: limit / 2, slots: make([]keptTime, times), seed: maphash.MakeSeed()}
 }
 
-// limitKept starts the count with the events that the file has already.
-func (s *Serf) limitKept() error {
+// limitKeptEvents makes the node's keptEvents if KeepEvents is set, and counts the events that the file already has.
+func (s *Serf) limitKeptEvents() error {
 	if !s.config.KeepEvents || s.snapshot == nil {
 		return nil
 	}
@@ -59,8 +62,9 @@ func (s *Serf) limitKept() error {
 	return readFileLines(s.snapshot.path, s.keptEvents.countLine)
 }
 
-// countKept counts an event that was handed out, whichever node fired it, and has the file checked if it has grown. order is held.
-func (s *Serf) countKept(event *serfagent.Event) {
+// countKeptEvent counts an event that was handed out, whichever node fired it. If the file has grown enough, it signals that
+// the file should be checked. The caller holds agentMu.
+func (s *Serf) countKeptEvent(event *serfagent.Event) {
 	s.grownBytes += maxClockLines
 	if s.keptEvents != nil {
 		s.keptEvents.admit(event.Time, event.Name, event.Payload, true)
@@ -71,16 +75,17 @@ func (s *Serf) countKept(event *serfagent.Event) {
 	}
 }
 
-// commonPart returns how many of a time's bytes exceed its own share.
-func (k *keptEvents) commonPart(bytes int64) int64 {
+// excessOverShare returns by how many bytes the events of one time exceed the share of that time.
+func (k *keptEvents) excessOverShare(bytes int64) int64 {
 	if bytes > k.timeShare {
 		return bytes - k.timeShare
 	}
 	return 0
 }
 
-// admit counts an event and reports whether there is room for it. An event that was counted before, or whose time has been overwritten,
-// needs no room. With isKept the event is in the file in any case, so it is counted even if there is no room.
+// admit reports whether there is room for an event, and counts the event if there is. An event that was counted before,
+// or whose time has been overwritten, needs no room. isKept means that the file already has the event, so admit counts
+// it even if there is no room.
 func (k *keptEvents) admit(time uint64, name, payload []byte, isKept bool) bool {
 	k.mu.Lock()
 	defer k.mu.Unlock()
@@ -95,29 +100,29 @@ func (k *keptEvents) admit(time uint64, name, payload []byte, isKept bool) bool 
 	_, _ = hash.Write(payload)
 	hash64 := hash.Sum64()
 	if time == slot.time {
-		if _, ok := slot.known[hash64]; ok {
+		if _, ok := slot.hashes[hash64]; ok {
 			return true
 		}
 	}
-	before := slot.bytes
+	bytesBefore := slot.bytes
 	if time > slot.time {
-		before = 0
+		bytesBefore = 0
 	}
-	after := before + eventOverhead + 2*int64(len(name)+len(payload))
-	roomLeft := k.commonRoom + k.commonPart(slot.bytes) - k.commonPart(after)
-	if after > k.timeShare && roomLeft < 0 && !isKept {
+	bytesAfter := bytesBefore + eventOverhead + 2*int64(len(name)+len(payload))
+	roomLeft := k.sharedRoom + k.excessOverShare(slot.bytes) - k.excessOverShare(bytesAfter)
+	if bytesAfter > k.timeShare && roomLeft < 0 && !isKept {
 		return false
 	}
-	// (the first event of a slot may have time 0: no node fires one, but anybody may send one)
-	if time > slot.time || slot.known == nil {
-		*slot = keptTime{time: time, known: map[uint64]struct{}{}}
+	// (the first event of a slot may have time 0: no node fires an event at that time, but anybody may send one)
+	if time > slot.time || slot.hashes == nil {
+		*slot = keptTime{time: time, hashes: map[uint64]struct{}{}}
 	}
-	k.commonRoom, slot.bytes = roomLeft, after
-	slot.known[hash64] = struct{}{}
+	k.sharedRoom, slot.bytes = roomLeft, bytesAfter
+	slot.hashes[hash64] = struct{}{}
 	return true
 }
 
-// countLine counts an event's line of the file.
+// countLine counts an event whose line is in the file.
 func (k *keptEvents) countLine(line string) {
 	if !strings.HasPrefix(line, eventPrefix) {
 		return
@@ -144,16 +149,16 @@ func (k *keptEvents) admitPacket(data []byte) bool {
 	return d.finish() != nil || k.admit(time, name, payload, false)
 }
 
-// readEvent reads the map of an event. The events of a slot have no separate times.
+// readEvent reads the map of an event. An event inside a slot has no separate time, so the time is 0.
 func (d *decoder) readEvent() (time uint64, name, payload []byte) {
-	d.eachField(func(key string) bool {
+	d.readMap(func(key string) bool {
 		switch key {
 		case "LTime":
-			time = d.unsigned()
+			time = d.readUnsigned()
 		case "Name":
-			name = d.raw()
+			name = d.readText()
 		case "Payload":
-			payload = d.raw()
+			payload = d.readText()
 		default:
 			return false
 		}
@@ -169,11 +174,11 @@ func (k *keptEvents) admitState(data []byte) bool {
 	}
 	hasRoom := true
 	d := newDecoder(data[1:])
-	d.eachField(func(key string) bool {
+	d.readMap(func(key string) bool {
 		if key != "Events" {
 			return false
 		}
-		for count := d.arrayHeader(); count > 0 && d.Err == nil; count-- {
+		for count := d.readArrayHeader(); count > 0 && d.Err == nil; count-- {
 			hasRoom = k.admitSlot(d) && hasRoom
 		}
 		return true
@@ -181,16 +186,16 @@ func (k *keptEvents) admitState(data []byte) bool {
 	return hasRoom
 }
 
-// admitSlot reports it for one slot. The slot's time may follow its events in the map.
+// admitSlot reports whether there is room for all events of one slot. The slot's time may follow its events in the map.
 func (k *keptEvents) admitSlot(d *decoder) bool {
 	var time uint64
 	var events [][2][]byte
-	d.eachField(func(key string) bool {
+	d.readMap(func(key string) bool {
 		switch key {
 		case "LTime":
-			time = d.unsigned()
+			time = d.readUnsigned()
 		case "Events":
-			for count := d.arrayHeader(); count > 0 && d.Err == nil; count-- {
+			for count := d.readArrayHeader(); count > 0 && d.Err == nil; count-- {
 				_, name, payload := d.readEvent()
 				events = append(events, [2][]byte{name, payload})
 			}

@@ -18,12 +18,12 @@ func TestKeptEventOfTimeZero(t *testing.T) {
 	if !k.admit(0, []byte("e"), []byte("e"), false) || !k.admit(0, []byte("other"), nil, false) {
 		t.Error("an event of time 0 was refused")
 	}
-	if common := k.commonRoom; common != limit/2 || k.slots[0].bytes != 2*eventOverhead+4+2*int64(len("other")) {
+	if common := k.sharedRoom; common != limit/2 || k.slots[0].bytes != 2*eventOverhead+4+2*int64(len("other")) {
 		t.Error(common, k.slots[0].bytes)
 	}
 }
 
-// A flood of some times takes no room from other times, and all together stay within the limit.
+// A flood of events at some times takes no room from other times, and all times together stay within the limit.
 func TestKeptEventsAreLimited(t *testing.T) {
 	const limit, times = 1 << 20, 8
 	k := newKeptEvents(limit, times)
@@ -37,20 +37,20 @@ func TestKeptEventsAreLimited(t *testing.T) {
 		}
 		return admitted
 	}
-	first := flood(1)
-	if bytes := first * size; bytes > k.timeShare+limit/2 || bytes < k.timeShare+limit/2-size {
+	firstAdmitted := flood(1)
+	if bytes := firstAdmitted * size; bytes > k.timeShare+limit/2 || bytes < k.timeShare+limit/2-size {
 		t.Error(bytes, k.timeShare)
 	}
-	total := first
+	totalAdmitted := firstAdmitted
 	for time := uint64(2); time <= times; time++ {
 		admitted := flood(time)
 		if admitted*size > k.timeShare || admitted*size < k.timeShare-size {
 			t.Error(time, admitted)
 		}
-		total += admitted
+		totalAdmitted += admitted
 	}
-	if total*size > limit || total*size < limit-times*size {
-		t.Error(total * size)
+	if totalAdmitted*size > limit || totalAdmitted*size < limit-times*size {
+		t.Error(totalAdmitted * size)
 	}
 	if again := k.admit(1, []byte("e000000"), payload, false); !again {
 		t.Error("an event that was counted before was refused")
@@ -59,8 +59,8 @@ func TestKeptEventsAreLimited(t *testing.T) {
 		t.Error("an event that is in the file in any case was not counted")
 	}
 	// a time that overwrites the first one has its own room, and events of an overwritten time need none
-	if again := flood(1 + times); again < first-1 || again > first {
-		t.Error(again, first)
+	if again := flood(1 + times); again < firstAdmitted-1 || again > firstAdmitted {
+		t.Error(again, firstAdmitted)
 	}
 	if !k.admit(1, []byte("passed"), payload, false) {
 		t.Error("an event of an overwritten time was refused")
@@ -71,7 +71,7 @@ func TestKeptEventsAreLimited(t *testing.T) {
 	for _, line := range []string{"#event 1 65", "#event x 65 65", "#event 1 6 65", "#event 1 65 6", "event-clock: 01", "#query 1 65"} {
 		other.countLine(line)
 	}
-	if slot := other.slots[1]; slot.bytes != eventOverhead+2*1001 || slot.time != 1 || len(slot.known) != 1 {
+	if slot := other.slots[1]; slot.bytes != eventOverhead+2*1001 || slot.time != 1 || len(slot.hashes) != 1 {
 		t.Error(slot)
 	}
 	var none *keptEvents
@@ -86,7 +86,7 @@ func withKeptEvents(o *nodeOptions) { o.KeepEvents, o.KeepEventsSize = true, Min
 func TestFloodOfKeptEvents(t *testing.T) {
 	folder := t.TempDir()
 	path := filepath.Join(folder, "a")
-	handed := map[string]int{}
+	timesHandedOut := map[string]int{}
 	payload := bytes.Repeat([]byte("z"), 480)
 	var longest int64
 	for life := 0; life < 2; life++ {
@@ -120,7 +120,7 @@ func TestFloodOfKeptEvents(t *testing.T) {
 		a.mu.Lock()
 		for _, e := range a.received {
 			if e, ok := e.(UserEvent); ok {
-				handed[e.Name+string(e.Payload)]++
+				timesHandedOut[e.Name+string(e.Payload)]++
 			}
 		}
 		a.mu.Unlock()
@@ -128,17 +128,17 @@ func TestFloodOfKeptEvents(t *testing.T) {
 	if max := int64(2*MinKeepEventsSize + compactCheckGrowth + 4<<20); longest > max {
 		t.Errorf("%d bytes, want at most %d", longest, max)
 	}
-	for name, count := range handed {
+	for name, count := range timesHandedOut {
 		if count > 1 {
 			t.Error(name, count)
 		}
 	}
-	if len(handed) < 500 || handed["of a state"] != 1 {
-		t.Error(len(handed), handed["of a state"])
+	if len(timesHandedOut) < 500 || timesHandedOut["of a state"] != 1 {
+		t.Error(len(timesHandedOut), timesHandedOut["of a state"])
 	}
 	bound := newKeptEvents(MinKeepEventsSize, 512)
-	if err := readFileLines(path, bound.countLine); err != nil || bound.commonRoom < -(2<<10) {
-		t.Error(bound.commonRoom, err)
+	if err := readFileLines(path, bound.countLine); err != nil || bound.sharedRoom < -(2<<10) {
+		t.Error(bound.sharedRoom, err)
 	}
 }
 
@@ -168,7 +168,7 @@ func TestLongSnapshots(t *testing.T) {
 		t.Fatal(found, err)
 	}
 	f.close()
-	// (a hole, which uses no room on the disk)
+	// (the added part is a hole, which uses no space on the disk)
 	if err := os.Truncate(path, 300<<20); err != nil {
 		t.Skip(err)
 	}

@@ -5,7 +5,7 @@ import (
 	"fmt"
 )
 
-// keyCommand is an operation on keys, by the name of its query.
+// keyCommand is an operation on keys. Its value is the name of the query that requests the operation.
 type keyCommand string
 
 const (
@@ -15,7 +15,7 @@ const (
 	listKeys   keyCommand = "list-keys"
 )
 
-// KeyManager changes the keys of all nodes. Make one call at a time: each change builds on the one before.
+// KeyManager changes the keys of all nodes. Make one call at a time, since each change builds on the previous one.
 type KeyManager struct{ serf *Serf }
 
 // KeyManager returns the manager of the cluster's keys.
@@ -27,15 +27,16 @@ type KeyRequestOptions struct {
 	RelayFactor uint8
 }
 
-// KeyResponse has what the nodes answered.
+// KeyResponse has the nodes' answers to a request about keys.
 type KeyResponse struct {
-	// Messages are the errors or notes that nodes sent, by the node's name.
+	// Messages maps a node's name to the error or the note that the node sent.
 	Messages map[string]string
-	// NumNodes is the number of nodes, NumResp how many answered, and NumErr how many of these reported a failure.
+	// NumNodes is the number of nodes. NumResp of them answered, and NumErr of those reported a failure.
 	NumNodes int
 	NumResp  int
 	NumErr   int
-	// Keys has how many nodes have each key (in base64), and PrimaryKeys how many encrypt with it.
+	// Keys maps each key, in base64, to the number of nodes that have it. PrimaryKeys maps it to the number of nodes
+	// that encrypt with it.
 	Keys        map[string]int
 	PrimaryKeys map[string]int
 }
@@ -99,7 +100,7 @@ func (k *KeyManager) request(command keyCommand, encodedKey string, opts *KeyReq
 	}
 	response.NumNodes = k.serf.memberlist().NumMembers()
 	for answer := range query.responses {
-		response.count(answer)
+		response.addAnswer(answer)
 		if response.NumResp == response.NumNodes {
 			// (all nodes have answered)
 			break
@@ -108,8 +109,8 @@ func (k *KeyManager) request(command keyCommand, encodedKey string, opts *KeyReq
 	return response, response.failure()
 }
 
-// count adds one node's answer.
-func (r *KeyResponse) count(answer NodeResponse) {
+// addAnswer adds one node's answer.
+func (r *KeyResponse) addAnswer(answer NodeResponse) {
 	r.NumResp++
 	reply, err := decodeKeyResponse(answer.Payload)
 	if err != nil {
@@ -168,7 +169,8 @@ func (s *Serf) answerKeyQuery(command keyCommand, payload []byte) []byte {
 	return encodeFitting(s.config.QueryResponseSizeLimit, answer)
 }
 
-// encodeFitting encodes a response, with as many keys as fit into the limit for a response's packet.
+// encodeFitting encodes a response. It leaves out as many keys as necessary, so that the response's packet stays within
+// the limit.
 func encodeFitting(limit int, answer nodeKeyResponse) []byte {
 	total := len(answer.Keys)
 	if len(answer.Message) > 512 {

@@ -12,7 +12,7 @@ import (
 	"kitchenrue.example/serfagent"
 )
 
-// Errors of a node that doesn't encrypt.
+// These are the errors of a node that doesn't encrypt gossip.
 var (
 	//lint:ignore ST1005 Serf's own message
 	errNoKeyring = errors.New("No keyring to modify (encryption not enabled)")
@@ -20,8 +20,8 @@ var (
 	errEmptyKeyring = errors.New("Keyring is empty (encryption not enabled)")
 )
 
-// keyring has the gossip keys, of which the first one encrypts, and the path of the file to which changes are written. A nil keyring means
-// that gossip is not encrypted.
+// keyring has the gossip keys and the path of the file to which changes are written. The node encrypts with the first
+// key. A nil keyring means that gossip is not encrypted.
 type keyring struct {
 	mu   sync.Mutex
 	ring *memberlist.Keyring
@@ -44,7 +44,7 @@ func newKeyring(c *Config) (*keyring, error) {
 	return &keyring{ring: config.Keyring, path: c.KeyringFile}, nil
 }
 
-// base64Keys returns the keys in base64, the one that encrypts first. mu is held.
+// base64Keys returns the keys in base64. The first one is the key with which the node encrypts. The caller holds mu.
 func (k *keyring) base64Keys() []string {
 	var texts []string
 	for _, key := range k.ring.GetKeys() {
@@ -54,13 +54,13 @@ func (k *keyring) base64Keys() []string {
 }
 
 // change makes a change and writes the keys to the file.
-func (k *keyring) change(change func() error) error {
+func (k *keyring) change(apply func() error) error {
 	if k == nil {
 		return errNoKeyring
 	}
 	k.mu.Lock()
 	defer k.mu.Unlock()
-	if err := change(); err != nil || k.path == "" {
+	if err := apply(); err != nil || k.path == "" {
 		return err
 	}
 	data, err := json.MarshalIndent(k.base64Keys(), "", "  ")
@@ -70,7 +70,7 @@ func (k *keyring) change(change func() error) error {
 	return serfagent.WriteFile(k.path, data, 0o600)
 }
 
-// install adds a key for decryption.
+// install adds a key, with which the node can then decrypt.
 func (k *keyring) install(key []byte) error {
 	return k.change(func() error {
 		if len(k.ring.GetKeys()) >= maxKeys {
@@ -80,17 +80,17 @@ func (k *keyring) install(key []byte) error {
 	})
 }
 
-// use makes a key the one that encrypts.
+// use makes the node encrypt with a key that it already has.
 func (k *keyring) use(key []byte) error {
 	return k.change(func() error { return k.ring.UseKey(key) })
 }
 
-// remove removes a key. The one that encrypts can't be removed.
+// remove removes a key. The key with which the node encrypts can't be removed.
 func (k *keyring) remove(key []byte) error {
 	return k.change(func() error { return k.ring.RemoveKey(key) })
 }
 
-// list returns the keys in base64, the one that encrypts first.
+// list returns the keys in base64. The first one is the key with which the node encrypts.
 func (k *keyring) list() ([]string, error) {
 	if k == nil {
 		return nil, errEmptyKeyring

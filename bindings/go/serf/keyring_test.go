@@ -65,7 +65,7 @@ func TestKeyChanges(t *testing.T) {
 	}
 }
 
-// A keyring has at most as many keys as are read of a response.
+// A keyring accepts at most the number of keys that a node reads from a response.
 func TestNumberOfKeysIsLimited(t *testing.T) {
 	k := newTestKeyring(t, "")
 	for i := 1; i < maxKeys; i++ {
@@ -79,7 +79,7 @@ func TestNumberOfKeysIsLimited(t *testing.T) {
 	}
 }
 
-// If a change can't be written, that is an error, and the earlier keys are still there.
+// If a change can't be written to the file, the call returns an error, and the keyring still has the earlier keys.
 func TestKeyChangeThatCannotBeWritten(t *testing.T) {
 	folder := filepath.Join(t.TempDir(), "folder")
 	must(t, os.Mkdir(folder, 0o700))

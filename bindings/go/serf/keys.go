@@ -7,7 +7,7 @@ import (
 	"kitchenrue.example/guard/msgpack"
 )
 
-// maxKeys is the maximum number of keys of a node, and of the keys that are read of a response.
+// maxKeys is the maximum number of keys that a node has, and that it reads from a response.
 const maxKeys = 1024
 
 // keyRequest is the payload of a query about keys.
@@ -23,7 +23,7 @@ func decodeKeyRequest(payload []byte) ([]byte, error) {
 	return found.Key, nil
 }
 
-// nodeKeyResponse is a node's response to such a query.
+// nodeKeyResponse is a node's response to a query about keys.
 type nodeKeyResponse struct {
 	Result     bool
 	Message    string
@@ -57,7 +57,7 @@ type wireMember struct {
 	Tags                                  map[string]string
 }
 
-// encodeMember encodes that response; nil means that no member has the name.
+// encodeMember encodes the response to a query that asks which node has a name. If m is nil, no member has the name.
 func encodeMember(m *Member) []byte {
 	if m == nil {
 		return encode(nil, conflictResponseType)
@@ -68,7 +68,7 @@ func encodeMember(m *Member) []byte {
 	}, conflictResponseType)
 }
 
-// decodeMemberAddr decodes the address and the port of that response.
+// decodeMemberAddr decodes the address and the port from a response of that kind.
 func decodeMemberAddr(payload []byte) (addr net.IP, port uint16, err error) {
 	var found wireMember
 	if err := decodeWhole(payload, conflictResponseType, &found); err != nil {

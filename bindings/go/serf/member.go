@@ -35,7 +35,8 @@ type Member struct {
 	Tags   map[string]string
 	Status MemberStatus
 
-	// The versions of memberlist's protocol, and of Serf's, that the node supports and speaks.
+	// ProtocolMin to ProtocolMax are the versions of memberlist's protocol that the node supports, and ProtocolCur is
+	// the one that it speaks. DelegateMin, DelegateMax and DelegateCur are the same for Serf's protocol.
 	ProtocolMin uint8
 	ProtocolMax uint8
 	ProtocolCur uint8

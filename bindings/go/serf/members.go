@@ -13,15 +13,15 @@ import (
 	"kitchenrue.example/serfagent"
 )
 
-// maxIntents is the maximum number of intents that are held for nodes that aren't members yet.
+// maxIntents is the maximum number of intents that the list holds for nodes that aren't members yet.
 const maxIntents = 4096
 
-// memberList has the members. Its lock is held only briefly, since memberlist may call at any time. It reports changes without holding the
-// lock, one at a time and in order.
+// memberList has the members. No method holds its lock for long, since memberlist may call at any time. The list
+// reports changes one at a time and in order, without holding the lock.
 type memberList struct {
 	self string
 	log  *log.Logger
-	// intentTimeout is how long an intent is held for a node that isn't a member yet.
+	// intentTimeout is how long the list holds an intent of a node that isn't a member yet.
 	intentTimeout time.Duration
 	// flapTimeout is how soon a failed member has to be alive again to count as flapping.
 	flapTimeout time.Duration
@@ -31,36 +31,38 @@ type memberList struct {
 
 	mu      sync.Mutex
 	members map[string]*member
-	// forgottenSelf is this node as it was when it was forgotten after a leave.
+	// forgottenSelf is this node's last data as a member, saved when the list forgot this node after a leave.
 	forgottenSelf Member
-	// wronglyLeftAt is the latest time of an intent by which others may believe that this node left.
-	wronglyLeftAt uint64
-	intents       map[string]pendingIntent
-	unreported    []memberChange
-	isReporting   bool
-	// known is the number of members.
-	known atomic.Int64
+	// wrongLeaveTime is the latest time of a leave intent that makes other nodes believe, wrongly, that this node left.
+	wrongLeaveTime uint64
+	intents        map[string]pendingIntent
+	unreported     []memberChange
+	isReporting    bool
+	// memberCount is the number of members.
+	memberCount atomic.Int64
 }
 
 // member is a member, with the time of its last intent, and that of its last leave intent.
 type member struct {
 	Member
-	time, leaveTime uint64
-	// changedAt is when the member failed or left, or when the last intent arrived by which it leaves.
+	intentTime, leaveTime uint64
+	// changedAt is when the member failed or left, or when its last leave intent arrived.
 	changedAt time.Time
-	// prunedAt is when an intent arrived by which the member is to be forgotten once it has left. It is zero if there was none.
+	// prunedAt is when an intent arrived that says to forget the member after it has left. It is zero if no such intent
+	// arrived.
 	prunedAt time.Time
 }
 
-// isPruned reports whether the member is to be forgotten once it has left.
+// isPruned reports whether an intent said to forget the member after it has left.
 func (m *member) isPruned() bool { return !m.prunedAt.IsZero() }
 
 type pendingIntent struct {
 	serfagent.Intent
-	at time.Time
+	heldAt time.Time
 }
 
-// memberChange is a change to report: an event, and the line for the snapshot or an empty text.
+// memberChange is a change to report: an event, and a line for the snapshot. The line is empty if the change needs
+// none.
 type memberChange struct {
 	event MemberEvent
 	line  string
@@ -93,27 +95,28 @@ func (l *memberList) change(apply func()) {
 	}
 }
 
-// record records a change, which is reported once the lock is released. mu is held.
-func (l *memberList) record(kind EventType, m *member, line string) {
+// recordChange records a change, which is reported once the lock is released. The caller holds mu.
+func (l *memberList) recordChange(kind EventType, m *member, line string) {
 	if metric, ok := changeMetrics[kind]; ok {
 		incrCounter("member", metric)
 	}
-	l.known.Store(int64(len(l.members)))
+	l.memberCount.Store(int64(len(l.members)))
 	l.unreported = append(l.unreported, memberChange{MemberEvent{kind, []Member{m.Member}}, line})
 }
 
-// changeMetrics has Serf's metric names of these changes.
+// changeMetrics has the last part of the names of Serf's metrics for these changes.
 var changeMetrics = map[EventType]string{
 	EventMemberJoin: "join", EventMemberLeave: "left", EventMemberFailed: "failed", EventMemberUpdate: "update",
 }
 
+// aliveLine and notAliveLine return the snapshot's line that a member is alive, or is no longer alive.
 func aliveLine(m *member) string {
 	return "alive: " + m.Name + " " + net.JoinHostPort(m.Addr.String(), strconv.Itoa(int(m.Port))) + "\n"
 }
 
 func notAliveLine(m *member) string { return "not-alive: " + m.Name + "\n" }
 
-// memberJoined receives a member that is alive.
+// memberJoined adds a member that memberlist reports as alive, or marks it as alive again.
 func (l *memberList) memberJoined(joined Member) {
 	l.change(func() {
 		m := l.members[joined.Name]
@@ -128,8 +131,8 @@ func (l *memberList) memberJoined(joined Member) {
 		m.Status = StatusAlive
 		if pending, hasIntent := l.intents[joined.Name]; hasIntent {
 			delete(l.intents, joined.Name)
-			if pending.Time > m.time && time.Since(pending.at) < l.intentTimeout {
-				m.time = pending.Time
+			if pending.Time > m.intentTime && time.Since(pending.heldAt) < l.intentTimeout {
+				m.intentTime = pending.Time
 				if pending.Leave {
 					m.Status, m.changedAt, m.leaveTime = StatusLeaving, time.Now(), pending.Time
 				}
@@ -139,11 +142,12 @@ func (l *memberList) memberJoined(joined Member) {
 			}
 		}
 		l.log.Printf("[INFO] serf: EventMemberJoin: %s %s", m.Name, m.Addr)
-		l.record(EventMemberJoin, m, aliveLine(m))
+		l.recordChange(EventMemberJoin, m, aliveLine(m))
 	})
 }
 
-// memberLeft receives a member that memberlist no longer has: it left if it announced that before, and failed otherwise.
+// memberLeft handles a member that memberlist no longer has. If the member had announced its leave, it left; otherwise
+// it failed.
 func (l *memberList) memberLeft(name string) {
 	l.change(func() {
 		m := l.members[name]
@@ -157,29 +161,30 @@ func (l *memberList) memberLeft(name string) {
 		}
 		m.Status = StatusFailed
 		l.log.Printf("[INFO] serf: EventMemberFailed: %s %s", m.Name, m.Addr)
-		l.record(EventMemberFailed, m, notAliveLine(m))
+		l.recordChange(EventMemberFailed, m, notAliveLine(m))
 	})
 }
 
-// markLeft records that a member left, and forgets it if it is to be pruned.
+// markLeft records that a member left, and forgets the member if an intent said so.
 func (l *memberList) markLeft(m *member) {
 	m.Status = StatusLeft
 	l.log.Printf("[INFO] serf: EventMemberLeave: %s %s", m.Name, m.Addr)
-	l.record(EventMemberLeave, m, notAliveLine(m))
+	l.recordChange(EventMemberLeave, m, notAliveLine(m))
 	if m.isPruned() {
 		l.forget(m, "forced")
 	}
 }
 
-// forget removes a member. mu is held.
+// forget removes a member. The caller holds mu.
 func (l *memberList) forget(m *member, reason string) {
 	delete(l.members, m.Name)
 	l.log.Printf("[INFO] serf: EventMemberReap (%s): %s %s", reason, m.Name, m.Addr)
-	l.record(EventMemberReap, m, "")
+	l.recordChange(EventMemberReap, m, "")
 }
 
-// makeRoom forgets a member that failed or left, if there is one, so that a new one finds room. It forgets the oldest one at the IP address
-// that has the largest number of them: a host that invents members has many.
+// makeRoom forgets one member that failed or left, if there is one, so that the list has room for a new member. It
+// chooses the IP address with the largest number of failed and left members, since a host that invents members has
+// many, and forgets the oldest member at that address.
 func (l *memberList) makeRoom() (hasForgotten bool) {
 	l.change(func() {
 		var oldest *member
@@ -190,16 +195,16 @@ func (l *memberList) makeRoom() (hasForgotten bool) {
 				atAddress[addr] = append(atAddress[addr], m)
 			}
 		}
-		count := 0
+		largestCount := 0
 		for _, candidates := range atAddress {
-			first := candidates[0]
+			oldestAtAddress := candidates[0]
 			for _, m := range candidates {
-				if m.changedAt.Before(first.changedAt) {
-					first = m
+				if m.changedAt.Before(oldestAtAddress.changedAt) {
+					oldestAtAddress = m
 				}
 			}
-			if len(candidates) > count || len(candidates) == count && first.changedAt.Before(oldest.changedAt) {
-				oldest, count = first, len(candidates)
+			if len(candidates) > largestCount || len(candidates) == largestCount && oldestAtAddress.changedAt.Before(oldest.changedAt) {
+				oldest, largestCount = oldestAtAddress, len(candidates)
 			}
 		}
 		if hasForgotten = oldest != nil; hasForgotten {
@@ -209,7 +214,7 @@ func (l *memberList) makeRoom() (hasForgotten bool) {
 	return hasForgotten
 }
 
-// memberUpdated receives a member whose tags changed.
+// memberUpdated handles a member whose tags changed.
 func (l *memberList) memberUpdated(updated Member) {
 	l.change(func() {
 		m := l.members[updated.Name]
@@ -220,16 +225,17 @@ func (l *memberList) memberUpdated(updated Member) {
 		m.Member = updated
 		m.Status = status
 		l.log.Printf("[INFO] serf: EventMemberUpdate: %s", m.Name)
-		l.record(EventMemberUpdate, m, "")
+		l.recordChange(EventMemberUpdate, m, "")
 	})
 }
 
 // intentOutcome is the result of an intent.
 type intentOutcome struct {
-	// isNew: the intent is to be sent on.
+	// isNew: the intent is new to this node, so the node has to rebroadcast it.
 	isNew bool
-	// isWronglyLeft: the intent says that this node leaves, but it does not. The node has to refute that by a later join intent.
-	isWronglyLeft bool
+	// mustRefute: the intent says that this node leaves, although it does not. The node has to refute it by sending
+	// a later join intent.
+	mustRefute bool
 }
 
 // receiveIntent applies an intent. It has an effect only if its time is larger than that of the member's status. A node also refutes a leave
@@ -245,13 +251,13 @@ func (l *memberList) applyIntent(intent serfagent.Intent) intentOutcome {
 	if m == nil {
 		return intentOutcome{isNew: l.holdIntent(intent)}
 	}
-	if intent.Leave && m.Name == l.self && m.Status == StatusAlive && intent.Time >= m.time {
-		return l.wronglyLeft(intent.Time)
+	if intent.Leave && m.Name == l.self && m.Status == StatusAlive && intent.Time >= m.intentTime {
+		return l.recordWrongLeave(intent.Time)
 	}
-	if intent.Time <= m.time {
+	if intent.Time <= m.intentTime {
 		return intentOutcome{}
 	}
-	m.time = intent.Time
+	m.intentTime = intent.Time
 	if !intent.Leave {
 		if m.Status == StatusLeaving {
 			m.Status, m.prunedAt = StatusAlive, time.Time{}
@@ -276,24 +282,24 @@ func (l *memberList) applyIntent(intent serfagent.Intent) intentOutcome {
 	return intentOutcome{isNew: true}
 }
 
-// wronglyLeft records that others may believe that this node left at a time. mu is held.
-func (l *memberList) wronglyLeft(time uint64) intentOutcome {
-	if time > l.wronglyLeftAt {
-		l.wronglyLeftAt = time
+// recordWrongLeave records that other nodes may believe that this node left at a time. The caller holds mu.
+func (l *memberList) recordWrongLeave(time uint64) intentOutcome {
+	if time > l.wrongLeaveTime {
+		l.wrongLeaveTime = time
 	}
-	return intentOutcome{isWronglyLeft: true}
+	return intentOutcome{mustRefute: true}
 }
 
-// hasToRefute reports whether others may still believe that this node left: it has sent no later join intent.
-func (l *memberList) hasToRefute() bool {
+// mustRefuteLeave reports whether this node has sent no join intent later than the leave that other nodes may believe in.
+func (l *memberList) mustRefuteLeave() bool {
 	l.mu.Lock()
 	defer l.mu.Unlock()
 	m := l.members[l.self]
-	return m != nil && m.time <= l.wronglyLeftAt
+	return m != nil && m.intentTime <= l.wrongLeaveTime
 }
 
-// holdIntent holds an intent for a node that isn't a member yet, and reports whether it is new. It holds none for a name that no member can
-// have, and none if maxIntents are held.
+// holdIntent holds an intent of a node that isn't a member yet, and reports whether the intent is new. It does not hold
+// the intent if no member can have the node's name, or if the list already holds maxIntents intents.
 func (l *memberList) holdIntent(intent serfagent.Intent) bool {
 	now, name := time.Now(), string(intent.Node)
 	if name == "" || len(name) > maxNameLength {
@@ -308,34 +314,35 @@ func (l *memberList) holdIntent(intent serfagent.Intent) bool {
 	return true
 }
 
-// mergeState applies the statuses of another node's state: which members left, and the times of the others. It reports whether others may
-// believe wrongly that this node left, and the time of that. They may, if the state contains a later time for this node than that of its
-// last intent: the time of a leave that another node sent for it. A node that received the leave before it knew this one sees this one as
-// leaving, and its states don't say so.
-func (l *memberList) mergeState(state *serfagent.Members) (isWronglyLeft bool, wronglyLeftAt uint64) {
+// mergeState applies the statuses of another node's state: which members left, and the times of the others. It reports
+// whether other nodes may wrongly believe that this node left, and the time of that leave. They may believe so if the
+// state contains a later time for this node than that of its last intent. That is the time of a leave intent that
+// another node sent for this one. A node that received this leave intent before it knew this node shows this node as
+// leaving, but its states contain only the time.
+func (l *memberList) mergeState(state *serfagent.Members) (mustRefute bool, wrongLeaveTime uint64) {
 	times := make(map[string]uint64, len(state.Statuses))
 	for _, status := range state.Statuses {
 		times[status.Name] = status.Time
 	}
 	l.change(func() {
 		for _, name := range state.Left {
-			if l.applyIntent(serfagent.Intent{Time: times[name], Node: []byte(name), Leave: true}).isWronglyLeft {
-				isWronglyLeft = true
+			if l.applyIntent(serfagent.Intent{Time: times[name], Node: []byte(name), Leave: true}).mustRefute {
+				mustRefute = true
 			}
 		}
 		for _, name := range state.Left {
 			delete(times, name)
 		}
 		for name, time := range times {
-			if m := l.members[name]; name == l.self && m != nil && m.Status == StatusAlive && time > m.time {
-				isWronglyLeft = l.wronglyLeft(time).isWronglyLeft
+			if m := l.members[name]; name == l.self && m != nil && m.Status == StatusAlive && time > m.intentTime {
+				mustRefute = l.recordWrongLeave(time).mustRefute
 				continue
 			}
 			l.applyIntent(serfagent.Intent{Time: time, Node: []byte(name)})
 		}
-		wronglyLeftAt = l.wronglyLeftAt
+		wrongLeaveTime = l.wrongLeaveTime
 	})
-	return isWronglyLeft, wronglyLeftAt
+	return mustRefute, wrongLeaveTime
 }
 
 // setOwnStatus sets the status of this node and its time.
@@ -343,19 +350,20 @@ func (l *memberList) setOwnStatus(status MemberStatus, time uint64) {
 	l.change(func() {
 		if m := l.members[l.self]; m != nil {
 			m.Status = status
-			if time > m.time {
-				m.time = time
+			if time > m.intentTime {
+				m.intentTime = time
 			}
 			if status != StatusAlive {
-				m.leaveTime = m.time
+				m.leaveTime = m.intentTime
 			}
 		}
 	})
 }
 
-// reap forgets the members that failed or left long ago, the leaving ones that were to be forgotten for prunedFor, and the held intents
-// whose node never joined. A node that is alive refutes such an intent within that time. reap forgets this node itself only after it left.
-// A member that is alive so long after the last intent by which it leaves doesn't leave, so it counts as alive again.
+// reap forgets members that failed more than failedFor ago, members that left more than leftFor ago, and held intents
+// whose node never joined. It also forgets a leaving member if an intent said so more than prunedFor ago; a node that
+// is alive refutes such an intent within that time. It forgets this node itself only after this node left. If a member
+// is still alive long after its last leave intent, reap marks it as alive again.
 func (l *memberList) reap(failedFor, leftFor, prunedFor time.Duration, hasLeft bool) {
 	l.change(func() {
 		now := time.Now()
@@ -379,26 +387,27 @@ func (l *memberList) reap(failedFor, leftFor, prunedFor time.Duration, hasLeft b
 			}
 		}
 		for name, pending := range l.intents {
-			if now.Sub(pending.at) > l.intentTimeout {
+			if now.Sub(pending.heldAt) > l.intentTimeout {
 				delete(l.intents, name)
 			}
 		}
 	})
 }
 
-// all returns the members, sorted by name.
-func (l *memberList) all() []Member {
+// sorted returns the members, sorted by name.
+func (l *memberList) sorted() []Member {
 	l.mu.Lock()
 	defer l.mu.Unlock()
-	all := make([]Member, 0, len(l.members))
+	sorted := make([]Member, 0, len(l.members))
 	for _, m := range l.members {
-		all = append(all, m.Member)
+		sorted = append(sorted, m.Member)
 	}
-	sort.Slice(all, func(i, j int) bool { return all[i].Name < all[j].Name })
-	return all
+	sort.Slice(sorted, func(i, j int) bool { return sorted[i].Name < sorted[j].Name })
+	return sorted
 }
 
-// ownMember returns this node, even after a leave, when it is no longer among the members.
+// ownMember returns this node as a member. After a leave, when the list may have forgotten this node, it returns the
+// saved data.
 func (l *memberList) ownMember() Member {
 	if found, ok := l.get(l.self); ok {
 		return found
@@ -408,7 +417,7 @@ func (l *memberList) ownMember() Member {
 	return l.forgottenSelf
 }
 
-// get returns a member, and false if there is none of this name.
+// get returns the member with a name. ok is false if there is none.
 func (l *memberList) get(name string) (Member, bool) {
 	l.mu.Lock()
 	defer l.mu.Unlock()
@@ -433,9 +442,9 @@ func (l *memberList) count(status MemberStatus) int {
 }
 
 // size returns the number of members. It takes no lock.
-func (l *memberList) size() int { return int(l.known.Load()) }
+func (l *memberList) size() int { return int(l.memberCount.Load()) }
 
-// aliveLines returns the snapshot's lines of the members that are alive or leaving.
+// aliveLines returns the lines for the snapshot of all members that are alive or leaving.
 func (l *memberList) aliveLines() []string {
 	l.mu.Lock()
 	defer l.mu.Unlock()
@@ -449,14 +458,15 @@ func (l *memberList) aliveLines() []string {
 	return lines
 }
 
-// statuses returns the times of all members' statuses, and the names of those that left. A member that left may have sent a later join
-// intent, if memberlist doesn't know yet that it is alive again. That time must not look like the time at which it left.
+// statuses returns the time of each member's status, and the names of the members that left. For a member that left, it
+// returns the time of its leave intent. Such a member may have sent a later join intent before memberlist knows that it
+// is alive again, and the time of that join intent must not look like the time at which it left.
 func (l *memberList) statuses() (statuses []serfagent.Status, left []string) {
 	l.mu.Lock()
 	defer l.mu.Unlock()
 	statuses = make([]serfagent.Status, 0, len(l.members))
 	for _, m := range l.members {
-		time := m.time
+		time := m.intentTime
 		if m.Status == StatusLeft {
 			left = append(left, m.Name)
 			time = m.leaveTime
@@ -466,7 +476,8 @@ func (l *memberList) statuses() (statuses []serfagent.Status, left []string) {
 	return statuses, left
 }
 
-// pickFailed returns a random failed member, with the probability with which Serf tries to reconnect; false if none is to be tried now.
+// pickFailed returns a random failed member for a reconnect. It does so only with the probability that Serf uses;
+// otherwise, or if no member has failed, it returns false.
 func (l *memberList) pickFailed() (Member, bool) {
 	l.mu.Lock()
 	defer l.mu.Unlock()
@@ -490,7 +501,7 @@ func (l *memberList) pickFailed() (Member, bool) {
 }
 
 // pickOthers returns up to count random members that are alive, except this node and the named ones.
-func (l *memberList) pickOthers(count int, without ...string) []Member {
+func (l *memberList) pickOthers(count int, exclude ...string) []Member {
 	l.mu.Lock()
 	defer l.mu.Unlock()
 	var found []Member
@@ -499,7 +510,7 @@ next:
 		if m.Status != StatusAlive || m.Name == l.self {
 			continue
 		}
-		for _, name := range without {
+		for _, name := range exclude {
 			if m.Name == name {
 				continue next
 			}

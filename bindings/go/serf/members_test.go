@@ -34,8 +34,8 @@ func aliveMember(name string) Member {
 	return Member{Name: name, Addr: net.IPv4(127, 0, 0, 1), Port: 7946}
 }
 
-// run applies steps such as "join a; leaves a 3; gone a", and returns the outcomes of the intents. memberlist reports join, update and
-// gone. The steps came, leaves and pruned are intents with a time.
+// run applies steps such as "join a; leaves a 3; gone a", and returns the outcomes of the intents. The steps join,
+// update and gone are reports of memberlist; the steps came, leaves and pruned are intents with a time.
 func (c *testMembers) run(words string) string {
 	var outcomes []string
 	for _, step := range strings.Split(words, "; ") {
@@ -54,7 +54,7 @@ func (c *testMembers) run(words string) string {
 			if outcome.isNew {
 				outcomes = append(outcomes, "new")
 			}
-			if outcome.isWronglyLeft {
+			if outcome.mustRefute {
 				outcomes = append(outcomes, "wrong")
 			}
 		}
@@ -144,13 +144,13 @@ func TestMergeState(t *testing.T) {
 func TestLaterStatusOfItselfIsRefuted(t *testing.T) {
 	c := newTestMembers()
 	for _, step := range []struct {
-		own, status    uint64
-		isWrong, isDue bool
+		own, status                  uint64
+		wantRefuted, mustRefuteLeave bool
 	}{{3, 2, false, false}, {3, 3, false, false}, {3, 5, true, true}, {5, 5, false, true}, {6, 5, false, false}, {6, 6, false, false}, {6, 7, true, true}} {
 		c.setOwnStatus(StatusAlive, step.own)
-		isWrong, _ := c.mergeState(&serfagent.Members{Statuses: []serfagent.Status{{Name: "self", Time: step.status}}})
-		if isWrong != step.isWrong || c.hasToRefute() != step.isDue {
-			t.Error(step, isWrong, c.hasToRefute())
+		mustRefute, _ := c.mergeState(&serfagent.Members{Statuses: []serfagent.Status{{Name: "self", Time: step.status}}})
+		if mustRefute != step.wantRefuted || c.mustRefuteLeave() != step.mustRefuteLeave {
+			t.Error(step, mustRefute, c.mustRefuteLeave())
 		}
 	}
 	c.setOwnStatus(StatusLeaving, 8)
@@ -208,7 +208,8 @@ func TestMemberThatDoesNotLeave(t *testing.T) {
 	}
 }
 
-// A later leave intent counts from when it arrives.
+// If a leaving member sends a later leave intent, the time in which it has to leave starts again when that intent
+// arrives.
 func TestLaterLeaveOfLeavingMember(t *testing.T) {
 	c := newTestMembers()
 	c.run("join a; leaves a 3")
@@ -288,9 +289,9 @@ func TestHeldIntentsExpire(t *testing.T) {
 	for age, status := range map[time.Duration]MemberStatus{0: StatusLeaving, time.Hour: StatusAlive} {
 		c := newTestMembers()
 		c.run("leaves a 3")
-		waits := c.intents["a"]
-		waits.at = time.Now().Add(-age)
-		c.intents["a"] = waits
+		held := c.intents["a"]
+		held.heldAt = time.Now().Add(-age)
+		c.intents["a"] = held
 		c.run("join a")
 		if a, _ := c.get("a"); a.Status != status {
 			t.Error(age, a.Status)
@@ -298,7 +299,7 @@ func TestHeldIntentsExpire(t *testing.T) {
 	}
 }
 
-// A member that was to be pruned, and joined again before it left, is an ordinary member.
+// If a member was to be pruned but joined again before it left, it is an ordinary member again.
 func TestPrunedMemberThatRejoins(t *testing.T) {
 	c := newTestMembers()
 	c.run("join a; pruned a 4; join a; leaves a 6; gone a")
@@ -307,7 +308,8 @@ func TestPrunedMemberThatRejoins(t *testing.T) {
 	}
 }
 
-// A member that is to be pruned, and still looks alive, is forgotten after a time, unless it refutes that. A restart doesn't join it then.
+// A member that is to be pruned but still looks alive is forgotten after a time, unless it refutes the leave. After a
+// restart, the node doesn't join the forgotten member.
 func TestPrunedMemberThatLooksAlive(t *testing.T) {
 	for _, test := range []struct {
 		words     string
@@ -350,7 +352,7 @@ func TestNodeForgetsItselfOnlyAfterLeave(t *testing.T) {
 	if self, ok := c.get("self"); !ok || self.Status != StatusLeft {
 		t.Error(self, ok)
 	}
-	// after a leave it does, as Serf's node does, and ownMember still returns it
+	// after a leave, reap forgets this node too, as Serf does, and ownMember still returns it
 	c.reap(-1, -1, -1, true)
 	if _, ok := c.get("self"); ok || c.ownMember().Name != "self" {
 		t.Error(c.ownMember())

@@ -10,27 +10,30 @@ import (
 // The node sends its metrics to go-metrics, under Serf's names. A program that sets a global sink receives them, together with
 // memberlist's.
 
-// How many names of events, and of queries, have separate counters, and how many bytes of a name are used. Names come from the network,
-// and a sink keeps every name that it has received.
+// maxCountedNames is how many names of events, and how many of queries, have separate counters. maxCountedLength is how
+// many bytes of a name the counters use. These limits are needed because names arrive from the network, and a sink
+// keeps every name that it has received.
 const (
 	maxCountedNames  = 128
 	maxCountedLength = 64
 )
 
-// nameCounter counts events, or queries, by name. Only the reserved names, and the first ones that arrive, have separate counters.
+// nameCounter counts events, or queries, by name. Only reserved names and the first other names that arrive have
+// separate counters.
 type nameCounter struct {
 	kind string
 
 	mu sync.Mutex
-	// max is how many names may have separate counters: maxCountedNames, and the reserved ones.
+	// max is how many names may have separate counters: maxCountedNames plus the number of reserved names.
 	max int
-	// known are the names that arrived. unreported has the counts since the last report, by sink name, and total the count of all names.
+	// known has the names that arrived. unreported has the counts since the last report, by sink name, and total is the
+	// sum over all names.
 	known      map[string]*countedName
 	unreported map[string]*int
 	total      int
 }
 
-// countedName is a name that arrived, and its count since the last report.
+// countedName is a name that arrived, with its count since the last report.
 type countedName struct {
 	text       string
 	unreported *int
@@ -40,36 +43,38 @@ func newNameCounter(kind string) *nameCounter {
 	return &nameCounter{kind: kind, max: maxCountedNames, known: map[string]*countedName{}, unreported: map[string]*int{}}
 }
 
-// CountNames makes the metrics count these names of events and of queries separately, however many other names arrive. A name that is
-// counted once stays counted. Serf has no such method.
+// CountNames makes the metrics count these names of events and queries separately, however many other names arrive. You
+// can't undo this for a name. Serf has no such method.
 func (s *Serf) CountNames(events, queries []string) {
 	s.eventNames.reserve(events)
 	s.queryNames.reserve(queries)
 }
 
-// reserve makes separate counters for names, and reports a 0 for each, so that a monitor sees the first one as an increase.
+// reserve makes separate counters for names, and reports a 0 for each, so that a monitor sees the first event or query
+// of that name as an increase.
 func (n *nameCounter) reserve(names []string) {
 	n.mu.Lock()
 	defer n.mu.Unlock()
 	for _, name := range names {
-		plain := sinkName(name)
-		if n.unreported[plain] == nil {
-			n.unreported[plain] = new(int)
+		nameInSink := sinkName(name)
+		if n.unreported[nameInSink] == nil {
+			n.unreported[nameInSink] = new(int)
 			n.max++
 		}
-		n.known[name] = &countedName{name, n.unreported[plain]}
-		metrics.IncrCounter([]string{"serf", n.kind, plain}, 0)
+		n.known[name] = &countedName{name, n.unreported[nameInSink]}
+		metrics.IncrCounter([]string{"serf", n.kind, nameInSink}, 0)
 	}
 }
 
-// reportNames sends the counts to the sink. It is called once a second, since a report takes longer than processing an event.
+// reportNames sends the counts of all names to the sink. The node calls it once per second, and not for each event,
+// since a report takes longer than processing an event.
 func (s *Serf) reportNames() {
 	s.eventNames.report()
 	s.queryNames.report()
 }
 
-// count adds one to a name's count and returns the name as a string. report sends the count later.
-func (n *nameCounter) count(text []byte) string {
+// countName adds one to a name's count and returns the name as a string. report sends the count later.
+func (n *nameCounter) countName(text []byte) string {
 	n.mu.Lock()
 	defer n.mu.Unlock()
 	n.total++
@@ -83,16 +88,16 @@ func (n *nameCounter) count(text []byte) string {
 	return name.text
 }
 
-// addName makes the entry of a name that isn't known yet. Several names may share a sink name, and so a count.
+// addName makes the entry of a name that isn't known yet. Names with the same sink name share one count.
 func (n *nameCounter) addName(text string) *countedName {
-	plain := sinkName(text)
-	fresh := n.unreported[plain]
-	if fresh == nil {
-		if fresh = new(int); len(n.unreported) < n.max {
-			n.unreported[plain] = fresh
+	nameInSink := sinkName(text)
+	unreported := n.unreported[nameInSink]
+	if unreported == nil {
+		if unreported = new(int); len(n.unreported) < n.max {
+			n.unreported[nameInSink] = unreported
 		}
 	}
-	return &countedName{text, fresh}
+	return &countedName{text, unreported}
 }
 
 // report sends the counts to the sink.
@@ -128,7 +133,8 @@ func sinkName(name string) string {
 // incrCounter adds one to a counter.
 func incrCounter(name ...string) { metrics.IncrCounter(append([]string{"serf"}, name...), 1) }
 
-// The metrics of each packet or each burst. (go-metrics copies a key before it changes it.)
+// These are the keys of the metrics that the node updates for each packet or burst. They can be shared because
+// go-metrics copies a key before it changes it.
 var (
 	receivedKey = []string{"serf", "msgs", "received"}
 	sentKey     = []string{"serf", "msgs", "sent"}

@@ -29,7 +29,7 @@ func (t *sumSink) IncrCounterWithLabels(key []string, val float32, _ []metrics.L
 }
 func (t *sumSink) AddSampleWithLabels(key []string, val float32, _ []metrics.Label) { t.add(key, val) }
 
-// captureMetrics returns a function that returns all metrics from now on.
+// captureMetrics starts to record metrics. The function that it returns reports all metrics since then.
 func captureMetrics(t *testing.T) func() string {
 	t.Helper()
 	sink := &sumSink{sums: map[string]float32{}}
@@ -78,8 +78,8 @@ func TestNumberOfCountedNamesIsLimited(t *testing.T) {
 	counted := captureMetrics(t)
 	names := newNameCounter("events")
 	for i := 0; i < 2*maxCountedNames; i++ {
-		names.count([]byte(fmt.Sprint("e", i)))
-		names.count([]byte("e0"))
+		names.countName([]byte(fmt.Sprint("e", i)))
+		names.countName([]byte("e0"))
 		if i%10 == 0 {
 			names.report()
 		}
@@ -99,22 +99,23 @@ func TestNumberOfCountedNamesIsLimited(t *testing.T) {
 	}
 }
 
-// Reserved names have separate counters even if many others arrived before, and the others have as many as without them.
+// Reserved names have separate counters even if many other names arrived before. They don't reduce the number of
+// counters for the others.
 func TestReservedNamesAreCounted(t *testing.T) {
 	counted := captureMetrics(t)
 	names := newNameCounter("events")
 	flood := func(prefix string) {
 		for i := 0; i < 2*maxCountedNames; i++ {
-			names.count([]byte(fmt.Sprint(prefix, i)))
+			names.countName([]byte(fmt.Sprint(prefix, i)))
 		}
 	}
 	names.reserve([]string{"early"})
 	flood("e")
-	names.count([]byte("late"))
+	names.countName([]byte("late"))
 	names.reserve([]string{"late", "never", "e1", "e200"})
 	flood("f")
 	for _, name := range []string{"early", "late", "e1", "e200"} {
-		names.count([]byte(name))
+		names.countName([]byte(name))
 	}
 	names.report()
 	text := counted()
@@ -129,16 +130,16 @@ func TestReservedNamesAreCounted(t *testing.T) {
 	}
 }
 
-// A name that had no separate counter, although it is known, has one when it is reserved.
+// If a known name has no separate counter, it receives one when it is reserved.
 func TestKnownNameIsReserved(t *testing.T) {
 	counted := captureMetrics(t)
 	names := newNameCounter("events")
 	for i := 0; i < maxCountedNames; i++ {
-		names.count([]byte(fmt.Sprint(i, strings.Repeat("x", maxCountedLength))))
+		names.countName([]byte(fmt.Sprint(i, strings.Repeat("x", maxCountedLength))))
 	}
-	names.count([]byte("deploy"))
+	names.countName([]byte("deploy"))
 	names.reserve([]string{"deploy"})
-	names.count([]byte("deploy"))
+	names.countName([]byte("deploy"))
 	if names.report(); !strings.Contains(counted(), "\nserf.events.deploy=1\n") {
 		t.Error(counted())
 	}

@@ -4,5 +4,6 @@ package serf
 
 import "github.com/hashicorp/memberlist"
 
-// withFaults adds nothing in a normal build. A build for tests injects faults (faults.go).
+// withFaults returns the transport unchanged. In a build with the tag faults, which is for tests, it injects faults
+// (faults.go).
 func withFaults(transport memberlist.Transport) (memberlist.Transport, error) { return transport, nil }

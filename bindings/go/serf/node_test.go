@@ -92,10 +92,11 @@ func TestQueries(t *testing.T) {
 	}
 }
 
-// askBoth fires a query at a, which these nodes answer, and returns the numbers of acks and of responses.
-func askBoth(t *testing.T, a, b *testNode, name string, by QueryParam, reached string) (acks, responses int) {
+// askBoth fires a query at node a. The nodes whose names are in reached answer it. askBoth returns the numbers of acks
+// and of responses.
+func askBoth(t *testing.T, a, b *testNode, name string, params QueryParam, reached string) (acks, responses int) {
 	t.Helper()
-	response, err := a.Query(name, []byte("pay"), &by)
+	response, err := a.Query(name, []byte("pay"), &params)
 	if err != nil {
 		t.Fatal(name, err)
 	}
@@ -138,7 +139,7 @@ func TestQueryAndResponseSizeLimits(t *testing.T) {
 		})
 		queries, answers = append(queries, limits[0]-query), append(answers, limits[1]-answer)
 	}
-	// what surrounds a payload has a constant length, apart from the encoding of the payload's length
+	// the number of bytes around a payload is constant, apart from the encoding of the payload's length
 	for i := range queries {
 		if around := queries[i]; around > queries[0]+2 || around < queries[0]-2 || i < 3 && around != queries[0] {
 			t.Errorf("what surrounds the payloads of queries: %v", queries)
@@ -147,7 +148,7 @@ func TestQueryAndResponseSizeLimits(t *testing.T) {
 			t.Errorf("what surrounds the payloads of responses: %v", answers)
 		}
 	}
-	// tag filters count too
+	// the bytes of tag filters count towards the limit too
 	a := startNode(t, "a", t.TempDir(), withLimits(2000, 1024))
 	tagged := &QueryParam{FilterTags: map[string]string{"none": ""}}
 	if _, err := a.Query("x", bytes.Repeat([]byte("x"), 1600), tagged); err != nil {
@@ -158,8 +159,8 @@ func TestQueryAndResponseSizeLimits(t *testing.T) {
 	}
 }
 
-// longestAccepted returns the length of the longest payload that is not refused. It begins with the longest, since the first one that is
-// accepted may be the last.
+// longestAccepted returns the length of the longest payload that is not refused. It tries long payloads first, since a
+// query accepts only one answer.
 func longestAccepted(from int, try func(payload []byte) error) int {
 	for length := from; length > 0; length-- {
 		if try(make([]byte, length)) == nil {
@@ -294,7 +295,8 @@ func TestStatesThatSayItLeftAreRefuted(t *testing.T) {
 	}
 }
 
-// A node that was cut off while another one forced it to leave hears of that only from the times in states. It refutes it too.
+// If a node was cut off while another one forced it to leave, it learns of the leave only from the times in states. The
+// node refutes this leave too.
 func TestLaterTimesInStatesAreRefuted(t *testing.T) {
 	a, b := startPair(t)
 	// (b has just restarted and holds the leave, which it got from the state of a third node)
@@ -392,8 +394,8 @@ func TestShutdownDuringConflictQuery(t *testing.T) {
 	a, _ := startPair(t)
 	a.delegate().NotifyConflict(a.memberlist().LocalNode(), &memberlist.Node{Name: "a", Addr: []byte{127, 9, 9, 9}, Port: 1})
 	eventually(t, "the query is open", func() bool {
-		a.order.Lock()
-		defer a.order.Unlock()
+		a.agentMu.Lock()
+		defer a.agentMu.Unlock()
 		return len(a.openQueries) == 1
 	})
 	ended := make(chan error, 1)
@@ -425,7 +427,8 @@ func TestTwoNodesWithOneName(t *testing.T) {
 	}
 }
 
-// A name that is too long for an agent can only come from a stranger. It is an ordinary member, but its intents are not held.
+// Only a foreign program can have a name that is too long for an agent. The node treats it as an ordinary member, but
+// does not hold its intents.
 func TestMemberWithTooLongName(t *testing.T) {
 	a, b := startPair(t)
 	name := strings.Repeat("x", 129)

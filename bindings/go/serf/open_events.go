@@ -10,21 +10,23 @@ import (
 	"kitchenrue.example/serfagent"
 )
 
-// Values of Config.MaxOpenEvents: the default and the maximum.
+// These are the default and the maximum of Config.MaxOpenEvents.
 const (
 	DefaultMaxOpenEvents = 16384
 	MaxOpenEvents        = 65536
 )
 
-// UnfinishedEvent is an event that an earlier life of the node was handed, and that was not done when that life ended.
+// UnfinishedEvent is an event that was handed out in an earlier life of the node, and that was not done when that life
+// ended.
 type UnfinishedEvent struct {
-	// UserEvent is the event. Its field Coalesce is always false, since the file does not keep it.
+	// UserEvent is the event. Its field Coalesce is always false, since the file does not keep that field.
 	UserEvent
-	// HasBegun says that an earlier life called Begin for it. If not, its handler never began.
+	// HasBegun is true if an earlier life called Begin for the event. If it is false, the event's handler never began.
 	HasBegun bool
-	// HasBegunAgain says that an earlier life called BeginAgain for it too.
+	// HasBegunAgain is true if an earlier life also called BeginAgain for the event.
 	HasBegunAgain bool
-	// Process is the last process of the event that RecordProcess recorded, or nil if none is known. It may still be running.
+	// Process is the process that RecordProcess recorded last for the event, or nil if none is known. The process may
+	// still be running.
 	Process *HandlerProcess
 }
 
@@ -34,82 +36,89 @@ type eventKey struct {
 	name, payload string
 }
 
+// keyOf returns the key that identifies an event.
 func keyOf(e UserEvent) eventKey { return eventKey{e.LTime, e.Name, string(e.Payload)} }
 
-// lineOf returns the line that one of serfagent's functions makes for the event.
-func (k eventKey) lineOf(line func(uint64, []byte, []byte) ([]byte, error)) ([]byte, error) {
-	return line(uint64(k.time), []byte(k.name), []byte(k.payload))
+// lineOf returns the line about the event that makeLine, a function of serfagent, makes.
+func (k eventKey) lineOf(makeLine func(uint64, []byte, []byte) ([]byte, error)) ([]byte, error) {
+	return makeLine(uint64(k.time), []byte(k.name), []byte(k.payload))
 }
 
-// openState is the place of an open event among those that were handed out, how many lines say that its handler began (up to 2), and the last
-// process that is known.
+// openState is the state of an open event. position is its place in the order in which events were handed out, begunCount
+// is how many lines say that its handler began (up to 2), and process is the last known process of its handler.
 type openState struct {
-	place   uint64
-	begun   int
-	process *HandlerProcess
+	position   uint64
+	begunCount int
+	process    *HandlerProcess
 }
 
-// openEvents has the events that were handed out and are not done. The file has them too. The line of an event is flushed before it is
-// handed out. The line `#begun` is flushed before its handler begins. The line `#done` is appended after its handler has ended, with the line
-// `#ran`, and flushed with whatever is flushed next: if it is lost in a power cut, the next life reports a handler that ended.
+// openEvents has the events that were handed out and are not done. The file has them too. An event's line is flushed
+// before the event is handed out, and its line `#begun` before its handler begins. After the handler has ended, the
+// lines `#done` and `#ran` are appended; they reach the disk with the next flush of other lines. If a power cut loses
+// them, the next life reports the event as unfinished although its handler has ended.
 type openEvents struct {
-	mu        sync.Mutex
-	states    map[eventKey]openState
-	handedOut uint64
-	// lines wait to be appended, and so do the lines of the skipped events: those that were done without a handler. ready has a value if the
-	// goroutine that appends them has to do so. isClosed says that none can be appended any more.
+	mu             sync.Mutex
+	states         map[eventKey]openState
+	handedOutCount uint64
+	// lines has the lines that wait to be appended. skipped has the events that were done without a handler, whose
+	// lines wait too. ready has a value if the goroutine appendDeferredLines has to append them. isClosed is true if no more
+	// lines can be appended.
 	lines    []byte
 	skipped  []eventKey
 	ready    chan struct{}
 	isClosed bool
-	// runs has the lines that say how handlers ended.
+	// runs has the lines that say how the handlers of the last events ended.
 	runs keptRuns
-	// earlier are the events that were open when the node started.
-	earlier []UnfinishedEvent
-	// max is the number of open events at which the node accepts nothing more. holdBack is called with whether it is reached.
-	max      int
+	// unfinished are the events that were open when the node started.
+	unfinished []UnfinishedEvent
+	// maxOpen is the number of open events at which the node accepts nothing more. openEvents calls holdBack with true when
+	// that number is reached, and with false when it no longer is.
+	maxOpen  int
 	holdBack func(isFull bool)
 }
 
-func newOpenEvents(max int, holdBack func(bool)) *openEvents {
-	return &openEvents{states: map[eventKey]openState{}, ready: make(chan struct{}, 1), max: max, holdBack: holdBack}
+func newOpenEvents(maxOpen int, holdBack func(bool)) *openEvents {
+	return &openEvents{states: map[eventKey]openState{}, ready: make(chan struct{}, 1), maxOpen: maxOpen, holdBack: holdBack}
 }
 
-// restore adds the open events of a text, and keeps how the handlers of the others ended. lastTime is the time of the text's last event.
-func (o *openEvents) restore(says *handlerText, events []serfagent.OpenEvent, lastTime uint64) {
+// restore adds the open events of a snapshot's text. For the other events, it keeps the lines that say how their
+// handlers ended. lastTime is the time of the text's last event.
+func (o *openEvents) restore(handlers *handlerText, events []serfagent.OpenEvent, lastTime uint64) {
 	for _, event := range events {
 		e := UserEvent{LamportTime(event.Time), string(event.Name), payloadOf(event.Payload, nil), false}
 		state := openState{}
 		if event.HasBegun {
-			state.begun = 1
-			if says.begun[keyOf(e)] > 1 {
-				state.begun = 2
+			state.begunCount = 1
+			if handlers.begunCounts[keyOf(e)] > 1 {
+				state.begunCount = 2
 			}
-			if process, ok := says.process[keyOf(e)]; ok {
+			if process, ok := handlers.processes[keyOf(e)]; ok {
 				state.process = &process
 			}
 		}
 		o.addState(e, state)
-		o.earlier = append(o.earlier, UnfinishedEvent{e, state.begun > 0, state.begun > 1, state.process})
+		o.unfinished = append(o.unfinished, UnfinishedEvent{e, state.begunCount > 0, state.begunCount > 1, state.process})
 	}
-	o.runs.restore(says, func(key eventKey) bool { _, isOpen := o.states[key]; return isOpen }, LamportTime(lastTime))
+	o.runs.restore(handlers, func(key eventKey) bool { _, isOpen := o.states[key]; return isOpen }, LamportTime(lastTime))
 }
 
 // add adds an event that was handed out.
 func (o *openEvents) add(e UserEvent) { o.addState(e, openState{}) }
 
+// addState adds an event as open, in this state, and holds the pipe back if too many events are open.
 func (o *openEvents) addState(e UserEvent, state openState) {
 	o.mu.Lock()
 	defer o.mu.Unlock()
-	state.place = o.handedOut
+	state.position = o.handedOutCount
 	o.states[keyOf(e)] = state
-	o.handedOut++
-	if len(o.states) >= o.max {
+	o.handedOutCount++
+	if len(o.states) >= o.maxOpen {
 		o.holdBack(true)
 	}
 }
 
-// begin notes that the handler of an event begins, for the first or the second time, and returns the lines to append.
+// begin records that the handler of an event begins, for the first time or, if isAgain is true, for the second. It
+// returns the lines to append.
 func (o *openEvents) begin(e UserEvent, isAgain bool) ([]byte, error) {
 	o.mu.Lock()
 	defer o.mu.Unlock()
@@ -118,21 +127,21 @@ func (o *openEvents) begin(e UserEvent, isAgain bool) ([]byte, error) {
 	switch {
 	case !isOpen:
 		return nil, ErrNotOpen
-	case isAgain && state.begun == 0:
+	case isAgain && state.begunCount == 0:
 		return nil, ErrNotBegun
-	case !isAgain && state.begun > 0 || state.begun > 1:
+	case !isAgain && state.begunCount > 0 || state.begunCount > 1:
 		return nil, ErrAlreadyBegun
 	}
 	line, err := key.lineOf(serfagent.BegunLine)
 	if err != nil {
 		return nil, err
 	}
-	state.begun++
+	state.begunCount++
 	o.states[key] = state
 	return append(o.takeLines(), line...), nil
 }
 
-// setProcess records the process of an event that has begun. Its line waits to be appended.
+// setProcess records the process of an event whose handler has begun. The line about it waits to be appended.
 func (o *openEvents) setProcess(e UserEvent, process HandlerProcess) error {
 	o.mu.Lock()
 	defer o.mu.Unlock()
@@ -141,7 +150,7 @@ func (o *openEvents) setProcess(e UserEvent, process HandlerProcess) error {
 	switch {
 	case !isOpen:
 		return ErrNotOpen
-	case state.begun == 0:
+	case state.begunCount == 0:
 		return ErrNotBegun
 	case o.isClosed:
 		return ErrEnded
@@ -152,7 +161,8 @@ func (o *openEvents) setProcess(e UserEvent, process HandlerProcess) error {
 	return nil
 }
 
-// done notes that an event is done, and returns whether it had begun. Its lines wait to be appended.
+// done records that an event is done, and returns whether its handler had begun. The lines about it wait to be
+// appended.
 func (o *openEvents) done(e UserEvent, runs []HandlerRun) (hadBegun bool, err error) {
 	o.mu.Lock()
 	defer o.mu.Unlock()
@@ -164,24 +174,25 @@ func (o *openEvents) done(e UserEvent, runs []HandlerRun) (hadBegun bool, err er
 	if o.isClosed {
 		return false, ErrEnded
 	}
-	if state.begun == 0 {
+	if state.begunCount == 0 {
 		o.skipped = append(o.skipped, key)
 	} else {
 		line, err := key.lineOf(serfagent.DoneLine)
 		if err != nil {
 			return false, err
 		}
-		ran := ranLine(key, runs)
-		o.lines = append(append(o.lines, line...), ran...)
-		o.runs.add(key.time, ran)
+		runsLine := ranLine(key, runs)
+		o.lines = append(append(o.lines, line...), runsLine...)
+		o.runs.add(key.time, runsLine)
 	}
-	if delete(o.states, key); len(o.states) == o.max-1 {
+	if delete(o.states, key); len(o.states) == o.maxOpen-1 {
 		o.holdBack(false)
 	}
-	return state.begun > 0, nil
+	return state.begunCount > 0, nil
 }
 
-// takeLines removes the lines that wait, and returns them. mu is held, and so is order: no event is handed out before they are written.
+// takeLines removes the waiting lines and returns them. The caller holds mu. It also holds agentMu, so that no
+// event is handed out before these lines are written.
 func (o *openEvents) takeLines() []byte {
 	// (if memory runs out, the skipped events keep waiting)
 	skipped, err := o.skippedLines()
@@ -193,19 +204,20 @@ func (o *openEvents) takeLines() []byte {
 	return lines
 }
 
-// skippedLines returns the lines of the skipped events: a single one if all events up to their last time are done.
+// skippedLines returns the lines of the skipped events. If all events up to the last time of the skipped ones are done,
+// it is a single line.
 func (o *openEvents) skippedLines() ([]byte, error) {
 	if len(o.skipped) == 0 {
 		return nil, nil
 	}
-	last := LamportTime(0)
+	lastTime := LamportTime(0)
 	for _, key := range o.skipped {
-		if key.time > last {
-			last = key.time
+		if key.time > lastTime {
+			lastTime = key.time
 		}
 	}
-	if o.areDoneUpTo(last) {
-		return serfagent.DoneUpToLine(uint64(last))
+	if o.areDoneUpTo(lastTime) {
+		return serfagent.DoneUpToLine(uint64(lastTime))
 	}
 	var lines []byte
 	for _, key := range o.skipped {
@@ -228,7 +240,7 @@ func (o *openEvents) areDoneUpTo(time LamportTime) bool {
 	return true
 }
 
-// waitingLines removes the lines that wait, and returns them.
+// waitingLines is takeLines with mu not held. It returns nothing if the node does not track handlers.
 func (o *openEvents) waitingLines() []byte {
 	if o == nil {
 		return nil
@@ -238,9 +250,10 @@ func (o *openEvents) waitingLines() []byte {
 	return o.takeLines()
 }
 
-// compacted returns the lines that follow those of the library when the file is replaced: all events up to time are done, except the open
-// ones, and how the handlers of the last ones ended. The lines that wait are not needed any more.
-func (o *openEvents) compacted(time uint64) ([]byte, error) {
+// compactedLines returns the lines that follow the library's lines when the file is replaced. They say that all events up to
+// time are done except the open ones, and how the handlers of the last events ended. compactedLines drops the waiting lines,
+// since the file no longer needs them.
+func (o *openEvents) compactedLines(time uint64) ([]byte, error) {
 	if o == nil {
 		return nil, nil
 	}
@@ -252,7 +265,7 @@ func (o *openEvents) compacted(time uint64) ([]byte, error) {
 	for key := range o.states {
 		keys = append(keys, key)
 	}
-	sort.Slice(keys, func(i, j int) bool { return o.states[keys[i]].place < o.states[keys[j]].place })
+	sort.Slice(keys, func(i, j int) bool { return o.states[keys[i]].position < o.states[keys[j]].position })
 	appendLine := func(line []byte, lineErr error) {
 		if text = append(text, line...); err == nil {
 			err = lineErr
@@ -260,7 +273,7 @@ func (o *openEvents) compacted(time uint64) ([]byte, error) {
 	}
 	for _, key := range keys {
 		appendLine(key.lineOf(serfagent.OpenLine))
-		for count := o.states[key].begun; count > 0; count-- {
+		for count := o.states[key].begunCount; count > 0; count-- {
 			appendLine(key.lineOf(serfagent.BegunLine))
 		}
 		if process := o.states[key].process; process != nil {
@@ -293,44 +306,48 @@ func (o *openEvents) close() {
 	o.isClosed = true
 }
 
-// Begin says that the handler of an event begins. It returns after the flush of a line that says so, and only then may the handler begin:
-// if Begin returns an error, don't run it. If the process is killed before Done, the next life's Unfinished has the event with HasBegun.
+// Begin records that the handler of an event begins. It returns after a line that says so was flushed. Run the handler
+// only after Begin has returned, and don't run it if Begin returns an error. If the process is killed before Done,
+// Unfinished returns the event in the next life, with HasBegun set.
 //
-// The errors are ErrNotOpen if the event was not handed out or is done, ErrAlreadyBegun if Begin was called for it before, in whatever life
-// of the node, ErrEnded, and those of the disk, after which the node ends. Without TrackHandlers, Begin does nothing. Serf has no such
-// method.
+// Begin returns ErrNotOpen if the event was not handed out or is done, ErrAlreadyBegun if Begin was called for it
+// before in any life of the node, and ErrEnded after the end of the node. It also returns errors of the disk, after
+// which the node ends. Without TrackHandlers, Begin does nothing. Serf has no such method.
 func (s *Serf) Begin(event UserEvent) error { return s.begin(event, false) }
 
-// BeginAgain is Begin for an event that an earlier life has begun and that is not done, so that its handler may run again, once: it returns
-// ErrAlreadyBegun if it was called for the event before, in whatever life, and ErrNotBegun if Begin was not. Serf has no such method.
+// BeginAgain is Begin for an event that an earlier life has begun and that is not done. It lets the handler run once
+// more. It returns ErrAlreadyBegun if BeginAgain was called for the event before in any life, and ErrNotBegun if Begin
+// was never called for it. Serf has no such method.
 func (s *Serf) BeginAgain(event UserEvent) error { return s.begin(event, true) }
 
+// begin is Begin, or BeginAgain if isAgain is true.
 func (s *Serf) begin(event UserEvent, isAgain bool) error {
-	if s.open == nil {
+	if s.openEvents == nil {
 		return nil
 	}
-	file, err := s.appendBegun(event, isAgain)
+	file, err := s.appendBegunLine(event, isAgain)
 	if err != nil {
 		return err
 	}
-	// (the node continues during this flush)
+	// (agentMu is not held here, so the node continues during this flush)
 	if err := flushData(file); err == nil {
 		return nil
 	} else if !errors.Is(err, os.ErrClosed) {
-		s.order.Lock()
-		defer s.order.Unlock()
+		s.agentMu.Lock()
+		defer s.agentMu.Unlock()
 		return s.endOnFailure(err)
 	}
-	// (a compaction has replaced the file, and flushed the new one; or the node has ended)
-	s.order.Lock()
-	defer s.order.Unlock()
+	// (either a compaction has replaced the file and flushed the new one, or the node has ended)
+	s.agentMu.Lock()
+	defer s.agentMu.Unlock()
 	if s.isEnded {
 		return ErrEnded
 	}
 	return nil
 }
 
-// flushData flushes what was appended to a file. Unlike Sync it does not wait for the file's times, which takes several times as long.
+// flushData flushes the bytes that were appended to a file. Unlike Sync, it does not flush the file's timestamps, which
+// would take several times as long.
 func flushData(file *os.File) error {
 	conn, err := file.SyscallConn()
 	if err != nil {
@@ -343,89 +360,94 @@ func flushData(file *os.File) error {
 	return flushErr
 }
 
-// appendBegun appends the line, and returns the file to flush.
-func (s *Serf) appendBegun(event UserEvent, isAgain bool) (*os.File, error) {
-	s.order.Lock()
-	defer s.order.Unlock()
+// appendBegunLine appends the line, and returns the file to flush.
+func (s *Serf) appendBegunLine(event UserEvent, isAgain bool) (*os.File, error) {
+	s.agentMu.Lock()
+	defer s.agentMu.Unlock()
 	if s.isEnded {
 		return nil, ErrEnded
 	}
-	lines, err := s.open.begin(event, isAgain)
+	lines, err := s.openEvents.begin(event, isAgain)
 	if err != nil {
 		return nil, err
 	}
 	return s.snapshot.file, s.appendHandlerLines(lines)
 }
 
-// Done says that an event is done: its handler has ended, or it has none. If the process is killed before that, the next life's Unfinished
-// has the event. Done does not wait for the disk, so after a power cut Unfinished may also have the events that were done last, and after a
-// kill those that were done last without Begin.
+// Done records that an event is done: its handler has ended, or it has no handler. If the process is killed before
+// Done, Unfinished returns the event in the next life. Done does not wait for the disk. So, after a power cut,
+// Unfinished may also return the events that were done last; after a kill, it may return the last ones that were done
+// without Begin.
 //
-// The errors are ErrNotOpen if the event was not handed out or is done already, ErrEnded after the end of the node, and those of the disk,
-// after which the node ends. After Shutdown was called, Done is accepted until the node has ended. Without TrackHandlers, Done does nothing.
-// Serf has no such method.
+// Done returns ErrNotOpen if the event was not handed out or is already done, and ErrEnded after the end of the node.
+// It also returns errors of the disk, after which the node ends. You can still call Done after Shutdown was called,
+// until the node has ended. Without TrackHandlers, Done does nothing. Serf has no such method.
 func (s *Serf) Done(event UserEvent) error { return s.DoneWith(event, nil) }
 
 // DoneWith is Done, and also records how the handlers of the event ended, for EventRunsOf. Serf has no such method.
 func (s *Serf) DoneWith(event UserEvent, runs []HandlerRun) error {
-	if s.open == nil {
+	if s.openEvents == nil {
 		return nil
 	}
-	hadBegun, err := s.open.done(event, runs)
+	hadBegun, err := s.openEvents.done(event, runs)
 	if err != nil {
 		return err
 	}
 	if !hadBegun {
-		// (if this line is lost, the next life finds that the event waits. There may be many of these events, and their lines can share one)
-		signal(s.open.ready)
+		// (this line may wait: if it is lost, the next life reports the event as not begun. There may be many events
+		// without a handler, and one line can stand for all of them)
+		signal(s.openEvents.ready)
 		return nil
 	}
 	return s.appendSoon()
 }
 
-// RecordProcess says which process runs a handler of an event, so that the next life's Unfinished has it if that life begins before the
-// handler has ended. Call it after Begin, when the process has started: it does not wait for the disk, and after a power cut no process is
-// running. The errors are those of Done, and ErrNotBegun if Begin was not called. Serf has no such method.
+// RecordProcess records which process runs a handler of an event. If the next life begins before the handler has ended,
+// its Unfinished returns the event with that process. Call RecordProcess after Begin, when the process has started. It
+// does not wait for the disk, because no process survives a power cut. It returns the same errors as Done, and
+// ErrNotBegun if Begin was not called. Serf has no such method.
 func (s *Serf) RecordProcess(event UserEvent, process HandlerProcess) error {
-	if s.open == nil {
+	if s.openEvents == nil {
 		return nil
 	}
-	if err := s.open.setProcess(event, process); err != nil {
+	if err := s.openEvents.setProcess(event, process); err != nil {
 		return err
 	}
 	return s.appendSoon()
 }
 
-// appendSoon appends the lines that wait, or has that done if the node is busy.
+// appendSoon appends the waiting lines. If the node is busy, it leaves them to appendDeferredLines.
 func (s *Serf) appendSoon() error {
-	if !s.order.TryLock() {
-		signal(s.open.ready)
+	if !s.agentMu.TryLock() {
+		signal(s.openEvents.ready)
 		return nil
 	}
-	defer s.order.Unlock()
-	return s.appendWaiting()
+	defer s.agentMu.Unlock()
+	return s.appendWaitingLines()
 }
 
-// supersede says that an event is done because a later one of its name takes its place.
-func (s *Serf) supersede(event UserEvent) {
-	if s.open != nil {
+// markSuperseded records that an event is done because a later event of its name replaces it.
+func (s *Serf) markSuperseded(event UserEvent) {
+	if s.openEvents != nil {
 		_ = s.DoneWith(event, nil)
 	}
 }
 
-// appendWaiting appends the lines that wait. After the end, finishSnapshot appends them. order is held.
-func (s *Serf) appendWaiting() error {
+// appendWaitingLines appends the waiting lines. After the node has ended, it does nothing, since finishSnapshot appends
+// them. The caller holds agentMu.
+func (s *Serf) appendWaitingLines() error {
 	if s.isEnded {
 		return nil
 	}
-	return s.appendHandlerLines(s.open.waitingLines())
+	return s.appendHandlerLines(s.openEvents.waitingLines())
 }
 
-// handlerLineWeight is how many times the bytes of lines about handlers count as growth of the file. An event that is handled has five lines in
-// place of one, and a compaction drops most of them. So the file does not become larger than that of a node that does not track handlers.
+// handlerLineWeight is the factor with which lines about handlers count as growth of the file. An event that is handled
+// has five lines instead of one, and a compaction drops most of them. With this factor, the file does not become larger
+// than that of a node that does not track handlers.
 const handlerLineWeight = 4
 
-// appendHandlerLines appends lines, and ends the node if that fails. order is held.
+// appendHandlerLines appends lines, and ends the node if that fails. The caller holds agentMu.
 func (s *Serf) appendHandlerLines(lines []byte) error {
 	if len(lines) == 0 {
 		return nil
@@ -433,32 +455,33 @@ func (s *Serf) appendHandlerLines(lines []byte) error {
 	if s.grownBytes += handlerLineWeight * len(lines); s.grownBytes >= compactCheckGrowth {
 		signal(s.memberLines.ready)
 	}
-	return s.endOnFailure(s.snapshot.write(lines))
+	return s.endOnFailure(s.snapshot.appendLines(lines))
 }
 
-// writeDone appends the lines that waited while the node was busy.
-func (s *Serf) writeDone() {
-	if s.open == nil {
+// appendDeferredLines appends the lines that waited while the node was busy.
+func (s *Serf) appendDeferredLines() {
+	if s.openEvents == nil {
 		return
 	}
 	for {
 		select {
 		case <-s.ctx.Done():
 			return
-		case <-s.open.ready:
+		case <-s.openEvents.ready:
 		}
-		s.order.Lock()
-		_ = s.appendWaiting()
-		s.order.Unlock()
+		s.agentMu.Lock()
+		_ = s.appendWaitingLines()
+		s.agentMu.Unlock()
 	}
 }
 
-// Unfinished returns the events that were open when the node started, in the order in which they were handed out: an earlier life was
-// handed them, and did not say that they are done. EventCh never delivers them. Those whose handlers never began may run now, since they
-// never ran. Without TrackHandlers there are none. Serf has no such method.
+// Unfinished returns the events that were open when the node started, in the order in which they were handed out. An
+// earlier life handed them out, and the program did not call Done for them. EventCh never delivers them again. If the
+// handler of such an event never began, you can run it now. Without TrackHandlers, Unfinished returns none. Serf has no
+// such method.
 func (s *Serf) Unfinished() []UnfinishedEvent {
-	if s.open == nil {
+	if s.openEvents == nil {
 		return nil
 	}
-	return append([]UnfinishedEvent(nil), s.open.earlier...)
+	return append([]UnfinishedEvent(nil), s.openEvents.unfinished...)
 }

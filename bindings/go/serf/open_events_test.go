@@ -14,7 +14,8 @@ import (
 // withTracking makes a node track handlers. The test calls Begin and Done.
 func withTracking(o *nodeOptions) { o.TrackHandlers, o.EventBuffer = true, 8 }
 
-// unfinished lists what a node's earlier lives left open: the names, with `+` for each time that the handler began.
+// unfinished lists the events that a node's earlier lives left open: their names, with a `+` for each time that the
+// handler began.
 func (n *testNode) unfinished() string {
 	var names []string
 	for _, e := range n.Unfinished() {
@@ -38,19 +39,20 @@ func (n *testNode) fireNew(name string, payload []byte) UserEvent {
 	return UserEvent{LTime: time, Name: name, Payload: payload}
 }
 
-// kill ends a node as SIGKILL would: what is in the file stays as it is. It returns the file's text.
+// kill ends a node as SIGKILL would: nothing more is written to the file. It returns the file's text.
 func (n *testNode) kill() string {
 	n.t.Helper()
-	n.order.Lock()
-	noteLife(n.t, "killed", n.snapshot.path)
+	n.agentMu.Lock()
+	recordChange(n.t, "killed", n.snapshot.path)
 	text := readFile(n.t, n.snapshot.path)
-	n.order.Unlock()
+	n.agentMu.Unlock()
 	check(n.t, n.Shutdown())
 	must(n.t, os.WriteFile(n.snapshot.path, []byte(text), 0o600))
 	return text
 }
 
-// A life reports exactly what earlier lives were handed and did not finish, in order, with whether it began.
+// Unfinished returns exactly the events that earlier lives handed out and did not finish, in order, and says whether
+// the handler of each had begun.
 func TestUnfinishedEvents(t *testing.T) {
 	folder := t.TempDir()
 	a := startNode(t, "a", folder, withTracking)
@@ -106,21 +108,23 @@ func TestUnfinishedEvents(t *testing.T) {
 	check(t, a.Shutdown())
 }
 
-// After Shutdown was called, no handler begins, and those that run can still end.
+// After Shutdown was called, Begin returns an error, but Done still works for the handlers that are running.
 func TestDoneDuringShutdown(t *testing.T) {
 	folder := t.TempDir()
 	a := startNode(t, "a", folder, withTracking)
 	running, waiting := a.fireNew("running", nil), a.fireNew("waiting", nil)
 	must(t, a.Begin(running))
 	// (Shutdown sets this first, and writes to the file last)
-	a.order.Lock()
+	a.agentMu.Lock()
 	a.isEnded = true
-	a.order.Unlock()
+	a.agentMu.Unlock()
 	if err := a.Begin(waiting); err != ErrEnded {
 		t.Error(err)
 	}
 	check(t, a.Done(running))
+	a.agentMu.Lock()
 	a.isEnded = false
+	a.agentMu.Unlock()
 	check(t, a.Shutdown())
 	if err := a.Done(waiting); err != ErrEnded {
 		t.Error(err)
@@ -131,7 +135,8 @@ func TestDoneDuringShutdown(t *testing.T) {
 	}
 }
 
-// A compaction keeps the open events, also those that left the window long ago, and how often each began, with one replacement of the file.
+// With one replacement of the file, a compaction keeps the open events and how often the handler of each began. It also
+// keeps open events that left the window long ago.
 func TestOpenEventsOverCompactions(t *testing.T) {
 	folder := t.TempDir()
 	payload := bytes.Repeat([]byte("z"), 400)
@@ -155,7 +160,7 @@ func TestOpenEventsOverCompactions(t *testing.T) {
 				must(t, a.Done(e))
 			}
 			if i%100 == 99 {
-				must(t, a.inOrder(a.writeMemberLines))
+				must(t, a.useAgent(a.writeMemberLines))
 			}
 			now := textSize(t, a.snapshot.path)
 			if now < size {
@@ -173,7 +178,7 @@ func TestOpenEventsOverCompactions(t *testing.T) {
 	for _, e := range a.Unfinished() {
 		must(t, a.Done(e.UserEvent))
 	}
-	must(t, a.inOrder(func() error { return a.snapshot.compact(nil, a.compactLibrary) }))
+	must(t, a.useAgent(func() error { return a.snapshot.compact(nil, a.compactLibrary) }))
 	if text := readFile(t, a.snapshot.path); strings.Contains(text, "#open") || strings.Contains(text, "#begun") {
 		t.Error(text)
 	}
@@ -192,21 +197,22 @@ func namesOfOpen(events []serfagent.OpenEvent) string {
 	return strings.Join(names, " ")
 }
 
-// checkCompacted checks that a text which begins with those of a compaction leaves these events open.
-func checkCompacted(t *testing.T, text, left string) {
+// checkCompacted checks that the events in left are open according to a text that begins with the lines of a
+// compaction.
+func checkCompacted(t *testing.T, text, wantOpen string) {
 	t.Helper()
 	events, isTracked, err := serfagent.OpenEventsOf([]byte(text))
 	must(t, err)
-	if found := namesOfOpen(events); !isTracked || found != left {
-		t.Errorf("%q, and not %q", found, left)
+	if found := namesOfOpen(events); !isTracked || found != wantOpen {
+		t.Errorf("%q, and not %q", found, wantOpen)
 	}
-	if strings.Count(text, "#open ") < strings.Count(left, " ") {
+	if strings.Count(text, "#open ") < strings.Count(wantOpen, " ") {
 		t.Error("open events are missing in the text of the compaction")
 	}
 }
 
-// A file that is cut off at any byte after the last flush leaves each event open whose line of its end is cut, and none whose line is
-// whole. A beginning that was flushed is never lost.
+// If a file is cut off at any byte after the last flush, an event is open if its `#done` line is cut, and not open if
+// that line is whole. A flushed `#begun` line is never lost.
 func TestCutOffLines(t *testing.T) {
 	folder := t.TempDir()
 	a := startNode(t, "a", folder, withTracking)
@@ -219,7 +225,7 @@ func TestCutOffLines(t *testing.T) {
 	must(t, a.Done(first))
 	a.kill()
 	text := readText(t, a.snapshot.path)
-	// (the line of the end is followed by the line that says how the handlers ended)
+	// (the `#ran` line follows the `#done` line)
 	afterFirst := len(text) - len(ranLine(keyOf(first), nil))
 	afterSecond -= int64(len(ranLine(keyOf(second), nil)))
 	if !strings.HasSuffix(text[:afterSecond], "#done 2 7365636f6e64 7632\n") || afterSecond <= flushed || !strings.HasSuffix(text[:afterFirst], "#done 1 6669727374 \n") {
@@ -257,28 +263,29 @@ func (w *watchedAgent) CompactWith(lines []byte) error {
 	return err
 }
 
-// The replacement of the file has the open events. Nothing else is written before a crash can leave it.
+// The file that a compaction writes already has the open events, so a crash right after the replacement loses none of
+// them.
 func TestCompactionIsOneStep(t *testing.T) {
 	var left string
 	watched := &watchedAgent{}
 	a := startNode(t, "a", t.TempDir(), withTracking, func(o *nodeOptions) {
-		o.Wrap = func(agent Agent, _ serfagent.Settings) (Agent, error) {
+		o.Wrap = func(agent Agent, _ Opening) (Agent, error) {
 			watched.Agent, watched.onCompacted = agent, func() { left = readFile(t, o.SnapshotPath) }
 			return watched, nil
 		}
 	})
 	must(t, a.Begin(a.fireNew("open", nil)))
-	must(t, a.inOrder(func() error { return a.snapshot.compact(a.members.aliveLines(), a.compactLibrary) }))
+	must(t, a.useAgent(func() error { return a.snapshot.compact(a.members.aliveLines(), a.compactLibrary) }))
 	checkCompacted(t, left, "open+")
 	checkCompacted(t, readFile(t, a.snapshot.path), "open+")
 }
 
-// fullLines accepts no lines.
+// fullLines is a lineAppender that refuses all lines, as if the disk were full.
 type fullLines struct{ lineAppender }
 
 func (fullLines) AppendLines([]byte) error { return serfagent.ErrFull }
 
-// If the line of a beginning can't be written or flushed, Begin returns an error and the node ends.
+// If the `#begun` line can't be written or flushed, Begin returns an error and the node ends.
 func TestBeginOnAFailedDisk(t *testing.T) {
 	for _, what := range []string{"write", "flush"} {
 		a := startNode(t, "a", t.TempDir(), withTracking)
@@ -286,14 +293,14 @@ func TestBeginOnAFailedDisk(t *testing.T) {
 		reader, writer, err := os.Pipe()
 		must(t, err)
 		defer reader.Close()
-		a.order.Lock()
+		a.agentMu.Lock()
 		if what == "write" {
 			a.snapshot.lines = fullLines{a.snapshot.lines}
 		} else {
 			// (a pipe can't be flushed)
 			a.snapshot.file = writer
 		}
-		a.order.Unlock()
+		a.agentMu.Unlock()
 		if err := a.Begin(e); err == nil || err == ErrEnded {
 			t.Errorf("%s: %v", what, err)
 		}
@@ -307,7 +314,8 @@ func TestBeginOnAFailedDisk(t *testing.T) {
 	}
 }
 
-// A life without the setting forgets what was open, and says how many. To a later life with it, what that life handled isn't open.
+// A life without TrackHandlers forgets the open events, and logs how many there were. The events that this life handles
+// are not open in a later life with TrackHandlers.
 func TestLifeWithoutTracking(t *testing.T) {
 	folder := t.TempDir()
 	a := startNode(t, "a", folder, withTracking)
@@ -315,8 +323,8 @@ func TestLifeWithoutTracking(t *testing.T) {
 	a.kill()
 	log := &logBuffer{}
 	a = startNode(t, "a", folder, withKeptEvents, withLog(log), func(o *nodeOptions) { o.EventBuffer = 8 })
-	if says := log.String(); !strings.Contains(says, "1 events that an earlier life was handed") {
-		t.Error(says)
+	if logged := log.String(); !strings.Contains(logged, "1 events that an earlier life was handed") {
+		t.Error(logged)
 	}
 	a.fireNew("handled", nil)
 	if err := a.Begin(UserEvent{Name: "handled"}); err != nil || a.Unfinished() != nil {
@@ -333,7 +341,8 @@ func TestLifeWithoutTracking(t *testing.T) {
 func TestOpenEventsAreBounded(t *testing.T) {
 	a := startNode(t, "a", t.TempDir(), withTracking, func(o *nodeOptions) { o.MaxOpenEvents, o.BroadcastTimeout = 2, 1 })
 	first := a.fireNew("e1", nil)
-	// (the node may have begun to wait for its next packet while there was room, so a packet takes the last place)
+	// (the node may already be waiting for its next packet, which it then accepts even without room, so the test sends
+	// one that takes the last place)
 	a.delegate().NotifyMsg(encode(eventMessage{LTime: 8, Name: "e2"}, eventType))
 	eventually(t, "no room is left", func() bool { return len(a.payloads("e2")) == 1 && !a.pipe.hasRoom() })
 	if err := a.UserEvent("e3", nil, false); err != ErrBusy {
@@ -350,7 +359,7 @@ func TestOpenEventsAreBounded(t *testing.T) {
 	}
 }
 
-// Of the events of one name that are coalesced, those that are not delivered are done.
+// If events of one name are coalesced, the events that are not delivered are done.
 func TestCoalescedEventsAreDone(t *testing.T) {
 	folder := t.TempDir()
 	a := startNode(t, "a", folder, withTracking, func(o *nodeOptions) {

@@ -30,10 +30,10 @@ func TestChannelsOfAQuery(t *testing.T) {
 		members     int64
 		room        int
 	}{{true, 1, 17}, {false, 1, 17}, {true, 1008, 1024}, {true, 1009, 1024}, {false, 100_000, 1024}} {
-		a.members.known.Store(test.members)
-		a.order.Lock()
+		a.members.memberCount.Store(test.members)
+		a.agentMu.Lock()
 		response := a.openQuery(queryKey{1, uint32(test.members)}, QueryParam{RequestAck: test.isRequested, Timeout: time.Hour})
-		a.order.Unlock()
+		a.agentMu.Unlock()
 		if hasAcks := response.AckCh() != nil; hasAcks != test.isRequested || cap(response.responses) != test.room {
 			t.Errorf("%+v: %v %d", test, hasAcks, cap(response.responses))
 		}
@@ -68,7 +68,8 @@ func TestLast8192QueriesCanBeAnswered(t *testing.T) {
 	}
 }
 
-// The answers about keys: nodes that did not answer and nodes that failed are failures, and the keys of the latter are not counted.
+// A request about keys fails if a node did not answer or reported a failure. The keys of nodes that reported a failure
+// are not counted.
 func TestKeyAnswers(t *testing.T) {
 	good := encodeKeyResponse(nodeKeyResponse{Result: true, Keys: []string{"k", "l"}, PrimaryKey: "k"})
 	bad := encodeKeyResponse(nodeKeyResponse{Message: "no", Keys: []string{"k"}, PrimaryKey: "k"})
@@ -85,7 +86,7 @@ func TestKeyAnswers(t *testing.T) {
 	} {
 		r := &KeyResponse{Messages: map[string]string{}, NumNodes: 2, Keys: map[string]int{}, PrimaryKeys: map[string]int{}}
 		for i, payload := range test.answers {
-			r.count(NodeResponse{fmt.Sprint("n", i), payload})
+			r.addAnswer(NodeResponse{fmt.Sprint("n", i), payload})
 		}
 		if found := fmt.Sprint(r.Keys, r.PrimaryKeys, r.failure()); found != test.want {
 			t.Errorf("%d answers: %s", len(test.answers), found)

@@ -8,7 +8,7 @@ import (
 	"time"
 )
 
-// An event that is too large is refused with Serf's words: by its name and payload, or by its packet.
+// An event is refused with Serf's error if its name and payload, or its packet, are too large.
 func TestTooLargeEvent(t *testing.T) {
 	a := startNode(t, "a", "")
 	before := "user event exceeds configured limit of 512 bytes before encoding"
@@ -21,7 +21,7 @@ func TestTooLargeEvent(t *testing.T) {
 			t.Error(test.length, err)
 		}
 	}
-	// (the packet of the longest event that is accepted has 512 bytes, and a name counts as the payload does)
+	// (the packet of the longest accepted event has 512 bytes, and the bytes of a name count like those of a payload)
 	longest := 0
 	for length := 450; length <= 511; length++ {
 		errOfPayload, errOfName := a.UserEvent("x", make([]byte, length), false), a.UserEvent(strings.Repeat("x", length), []byte{0}, false)
@@ -37,27 +37,28 @@ func TestTooLargeEvent(t *testing.T) {
 	}
 }
 
-// A payload without bytes is nil, as in Serf: at the node that fired it only if it was nil there.
+// As in Serf, a payload without bytes is delivered as nil. At the node that fired the event, it is nil only if the
+// caller passed nil.
 func TestPayloadsWithoutBytes(t *testing.T) {
 	var mu sync.Mutex
 	seen := map[string]string{}
-	note := func(node string) option {
+	recordPayloads := func(node string) option {
 		return withOnEvent(func(e Event) {
 			mu.Lock()
 			defer mu.Unlock()
-			show := func(payload []byte) string { return fmt.Sprint(payload == nil, len(payload)) }
+			describePayload := func(payload []byte) string { return fmt.Sprint(payload == nil, len(payload)) }
 			switch e := e.(type) {
 			case UserEvent:
-				seen[node+" event "+e.Name] = show(e.Payload)
+				seen[node+" event "+e.Name] = describePayload(e.Payload)
 			case *Query:
-				seen[node+" query "+e.Name] = show(e.Payload)
+				seen[node+" query "+e.Name] = describePayload(e.Payload)
 				if node == "b" {
 					_ = e.Respond(nil)
 				}
 			}
 		})
 	}
-	a, b := startNode(t, "a", "", note("a")), startNode(t, "b", "", note("b"))
+	a, b := startNode(t, "a", "", recordPayloads("a")), startNode(t, "b", "", recordPayloads("b"))
 	b.join(a)
 	eventually(t, "a knows b", func() bool { return a.NumNodes() == 2 })
 	for name, payload := range map[string][]byte{"nil": nil, "empty": {}, "one": {1}} {
@@ -85,8 +86,8 @@ func TestPayloadsWithoutBytes(t *testing.T) {
 			mu.Unlock()
 		}
 	}
-	// (the state that a node receives when it joins later has them too)
-	c := startNode(t, "c", "", note("c"))
+	// (a node that joins later receives these events in a state)
+	c := startNode(t, "c", "", recordPayloads("c"))
 	_, err := c.Join([]string{a.address()}, false)
 	must(t, err)
 	eventually(t, "c has the events", func() bool {

@@ -6,19 +6,20 @@ import (
 	"time"
 )
 
-// Waiting is the maximum number of events that wait for EventCh, and of packets that wait for the proved agent: Serf's own number. If so
-// many events are waiting, the node accepts nothing more from the network and fires nothing. Packets beyond the maximum are dropped, as a
-// network may drop them.
+// Waiting is the maximum number of events that wait for EventCh, and of packets that wait for the proved agent. Serf
+// has the same number. If the maximum number of events is waiting, the node accepts nothing more from the network and
+// fires nothing. It drops packets beyond the maximum, as a network may drop packets too.
 const Waiting = 4096
 
-// pipe has the events that were handed out and wait for EventCh, in order. It drops no event, and add does not block: whoever receives from
-// the network or fires first checks that there is room. Member events can't be held back, so beyond the maximum the last event of each
-// member replaces its earlier ones.
+// pipe has the events that were handed out and wait for EventCh, in order. It drops no event, and add does not block:
+// the node checks that there is room before it receives from the network or fires. Member events can't be held back.
+// So, beyond the maximum, the last event of each member replaces that member's earlier ones.
 type pipe struct {
 	mu      sync.Mutex
 	waiting []Event
-	// positions are the places in waiting of the member events beyond the maximum, by the member's name. They count from the first event
-	// ever added, and removed is how many events were removed at the front. holes is how many places in waiting are empty.
+	// positions has the position of each member event beyond the maximum, by the member's name. Positions count from
+	// the first event ever added. removed is how many events were removed at the front, and holes is how many elements
+	// of waiting are empty.
 	positions map[string]int
 	removed   int
 	holes     int
@@ -27,7 +28,7 @@ type pipe struct {
 	// roomCh is closed while there is room.
 	roomCh chan struct{}
 	isFull atomic.Bool
-	// isHeldBack: there is no room, however few events are waiting.
+	// isHeldBack: the pipe reports that it has no room, however few events are waiting.
 	isHeldBack bool
 }
 
@@ -57,7 +58,8 @@ func (p *pipe) add(events ...Event) {
 	signal(p.ready)
 }
 
-// addLatest appends the event of one member and removes that member's earlier event, if that is beyond the maximum too.
+// addLatest appends the event of one member. If that member has an earlier event beyond the maximum, addLatest removes
+// the earlier one.
 func (p *pipe) addLatest(e MemberEvent) {
 	name := e.Members[0].Name
 	if position, ok := p.positions[name]; ok && position >= p.removed {
@@ -91,8 +93,8 @@ func (p *pipe) compact() {
 	p.waiting, p.holes = kept, 0
 }
 
-// mergedType returns the type of two events of one member in a row. A member that joined and changed is reported as joined, with its
-// present data.
+// mergedType returns the type of the event that replaces two successive events of one member. If a member joined and
+// then changed, the pipe reports that it joined, with its present data.
 func mergedType(first, last EventType) EventType {
 	if first == EventMemberJoin && last == EventMemberUpdate {
 		return first
@@ -103,7 +105,8 @@ func mergedType(first, last EventType) EventType {
 // size is length with mu held.
 func (p *pipe) size() int { return len(p.waiting) - p.holes }
 
-// holdBack makes the pipe have no room, or as much as the number of events leaves.
+// holdBack makes the pipe report no room if isHeldBack is true. If it is false, the pipe has room again as far as the
+// number of events allows.
 func (p *pipe) holdBack(isHeldBack bool) {
 	p.mu.Lock()
 	defer p.mu.Unlock()
@@ -111,7 +114,7 @@ func (p *pipe) holdBack(isHeldBack bool) {
 	p.updateRoom()
 }
 
-// updateRoom opens or closes roomCh by the number of events.
+// updateRoom closes roomCh if there is room, and replaces it by an open channel if there is none.
 func (p *pipe) updateRoom() {
 	isFull := p.isHeldBack || p.size() >= Waiting
 	if isFull == p.isFull.Load() {
@@ -151,7 +154,7 @@ func (p *pipe) length() int {
 	return p.size()
 }
 
-// hasRoom reports whether more may be accepted from the network.
+// hasRoom reports whether the node may accept more from the network.
 func (p *pipe) hasRoom() bool { return !p.isFull.Load() }
 
 // room returns a channel that is closed while there is room.
@@ -169,8 +172,8 @@ func (p *pipe) end() int {
 	return p.size()
 }
 
-// deliver offers the waiting events to a channel until ends is closed. From then on it offers the remaining ones for the grace period. It
-// returns how many were never received.
+// deliver offers the waiting events to eventCh until done is closed, and after that for the grace period. It returns
+// how many events were never received.
 func (p *pipe) deliver(eventCh chan<- Event, done <-chan struct{}, grace time.Duration) int {
 	var graceOver <-chan time.Time
 	for {
@@ -208,7 +211,7 @@ func (p *pipe) deliver(eventCh chan<- Event, done <-chan struct{}, grace time.Du
 	}
 }
 
-// signal puts a value into a channel with room for one, unless it has one already.
+// signal puts a value into a channel that has room for one value, unless the channel has a value already.
 func signal(ch chan<- struct{}) {
 	select {
 	case ch <- struct{}{}:

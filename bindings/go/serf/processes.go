@@ -10,24 +10,24 @@ import (
 	"syscall"
 )
 
-// HandlerProcess is the process of a handler. A later process with the same number has another start.
+// HandlerProcess is the process of a handler. A later process may have the same PID, but it has another Start or Boot.
 type HandlerProcess struct {
 	// Handler is the name of the handler.
 	Handler string
 	PID     int
-	// Start is when the process started, in clock ticks since the machine did. Boot is the ID of that start of the machine.
+	// Start is when the process started, in clock ticks since the machine booted. Boot is the ID of that boot.
 	Start uint64
 	Boot  string
 }
 
-// boot has the ID of the machine's last start, or why it can't be read.
+// boot has the ID of the machine's last boot, or the error if that ID can't be read.
 var boot struct {
 	once sync.Once
 	id   string
 	err  error
 }
 
-// bootID returns the ID of the machine's last start.
+// bootID returns the ID of the machine's last boot.
 func bootID() (string, error) {
 	boot.once.Do(func() {
 		var text []byte
@@ -37,7 +37,8 @@ func bootID() (string, error) {
 	return boot.id, boot.err
 }
 
-// ProcessOf describes a running process, or one that has ended and that its parent has not waited for. Serf has no such function.
+// ProcessOf describes a process that is running, or that has ended and for which its parent has not waited yet. Serf
+// has no such function.
 func ProcessOf(handler string, pid int) (HandlerProcess, error) {
 	_, start, err := processStat(pid)
 	if err != nil {
@@ -56,22 +57,24 @@ func (p HandlerProcess) IsRunning() bool {
 	return p.IsOfThisBoot()
 }
 
-// IsOfThisBoot reports whether the process started on this machine since its last start.
+// IsOfThisBoot reports whether the process started on this machine since the machine's last boot.
 func (p HandlerProcess) IsOfThisBoot() bool {
 	boot, err := bootID()
 	return err == nil && boot == p.Boot
 }
 
-// The positions of the state and the start in /proc/PID/stat, after the program's name.
+// These are the positions of the process's state and start among the fields of /proc/PID/stat that follow the program's
+// name.
 const (
 	statState = 0
 	statStart = 19
 )
 
-// maxStat is more bytes than /proc/PID/stat has.
+// maxStat is the size in bytes of the buffer for /proc/PID/stat, which is always shorter.
 const maxStat = 4096
 
-// readProc reads a file of /proc into a buffer. An os.File would take several times as long, and this is done for each handler.
+// readProc reads a file of /proc into a buffer. It doesn't use an os.File, which would take several times as long,
+// since the node calls it for each handler.
 func readProc(path string, buffer []byte) ([]byte, error) {
 	fd, err := syscall.Open(path, syscall.O_RDONLY|syscall.O_CLOEXEC, 0)
 	if err != nil {

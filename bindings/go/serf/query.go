@@ -12,8 +12,9 @@ import (
 	"kitchenrue.example/serfagent"
 )
 
-// Limits of this node's queries: how many may be open at once, including those that were closed by Close before their deadline; how long
-// they may be open; and how many answers wait for the caller. The proved agent counts up to 1,024 acks and as many responses of one query.
+// These are limits of this node's queries. MaxQueries is how many may be open at once. A query that Close ended counts
+// until its deadline. MaxTimeout is how long a query may be open, and maxAnswers is how many answers may wait for the
+// caller. The proved agent counts up to 1,024 acks and as many responses of one query.
 const (
 	MaxQueries = 256
 	MaxTimeout = time.Hour
@@ -24,8 +25,8 @@ const (
 type QueryParam struct {
 	// FilterNodes are the names of the nodes that may answer. Empty means all nodes.
 	FilterNodes []string
-	// FilterTags are tags and regular expressions. A node may answer if each expression matches somewhere in the value of its tag. A
-	// missing tag has an empty value.
+	// FilterTags maps tags to regular expressions. A node may answer if each expression matches somewhere in the node's
+	// value of that tag. A missing tag counts as an empty value.
 	FilterTags map[string]string
 	// RequestAck requests an ack from each node that may answer.
 	RequestAck bool
@@ -35,7 +36,7 @@ type QueryParam struct {
 	Timeout time.Duration
 }
 
-// DefaultQueryParams returns the options of a query for which none are given.
+// DefaultQueryParams returns the options of a query whose caller passes none.
 func (s *Serf) DefaultQueryParams() *QueryParam { return &QueryParam{Timeout: s.DefaultQueryTimeout()} }
 
 // NodeResponse is the response of one node.
@@ -44,26 +45,27 @@ type NodeResponse struct {
 	Payload []byte
 }
 
-// QueryResponse is a query of this node, and receives its acks and responses.
+// QueryResponse is a query that this node fired. It delivers the acks and responses to the query.
 type QueryResponse struct {
 	deadline  time.Time
 	acks      chan string
 	responses chan NodeResponse
 
-	// expiry triggers closeDue when the query's time is over.
-	expiry *time.Timer
+	// expiryTimer triggers closeDue at the query's deadline.
+	expiryTimer *time.Timer
 
 	mu       sync.Mutex
 	isClosed bool
 }
 
-// AckCh delivers the names of the nodes that acked. It is closed when the query is over, and nil if no acks were requested.
+// AckCh returns the channel that delivers the names of the nodes that acked. The channel is closed when the query is
+// over, and it is nil if no acks were requested.
 func (r *QueryResponse) AckCh() <-chan string { return r.acks }
 
-// ResponseCh delivers the responses. It is closed when the query is over.
+// ResponseCh returns the channel that delivers the responses. The channel is closed when the query is over.
 func (r *QueryResponse) ResponseCh() <-chan NodeResponse { return r.responses }
 
-// Deadline returns when the query is over.
+// Deadline returns the moment at which the query is over.
 func (r *QueryResponse) Deadline() time.Time { return r.deadline }
 
 // Finished reports whether the query is over: its deadline has passed, or Close was called.
@@ -73,7 +75,8 @@ func (r *QueryResponse) Finished() bool {
 	return r.isClosed || time.Now().After(r.deadline)
 }
 
-// Close ends the query, so no more answers are delivered. Until its deadline the query still counts towards MaxQueries.
+// Close ends the query, so that it delivers no more answers. The query still counts towards MaxQueries until its
+// deadline.
 func (r *QueryResponse) Close() {
 	r.mu.Lock()
 	defer r.mu.Unlock()
@@ -89,7 +92,8 @@ func (r *QueryResponse) Close() {
 	}
 }
 
-// deliver passes an answer to the caller. It returns false if the channel is full. Answers after the end of the query are ignored.
+// deliver passes an answer to the caller, and returns false if the channel is full. It ignores answers that arrive
+// after the end of the query.
 func (r *QueryResponse) deliver(answer *serfagent.Answer, isAck bool) bool {
 	r.mu.Lock()
 	defer r.mu.Unlock()
@@ -118,10 +122,12 @@ type queryKey struct {
 	id   uint32
 }
 
-// Query sends a query to the cluster, after the states that were received before. It returns after the query's line was flushed.
+// Query sends a query to the cluster. The node first merges the states that it has received. Query returns after the
+// query's line was flushed.
 //
-// At a protocol below 4 it returns FeatureNotSupported, and for a query that is too large an error that names the limit. It can also return
-// ErrInternal, ErrTimeout, ErrBusy, ErrQueries, ErrEnded, and errors of the proved agent. In all these cases no query was sent.
+// If ProtocolVersion is below 4, Query returns FeatureNotSupported. If the query is too large, the error names the
+// limit. Query can also return ErrInternal, ErrTimeout, ErrBusy, ErrQueries, ErrEnded, and errors of the proved agent.
+// In all these cases, no query was sent.
 func (s *Serf) Query(name string, payload []byte, params *QueryParam) (*QueryResponse, error) {
 	if strings.HasPrefix(name, InternalQueryPrefix) && name != InternalQueryPrefix+"ping" {
 		return nil, ErrInternal
@@ -132,7 +138,7 @@ func (s *Serf) Query(name string, payload []byte, params *QueryParam) (*QueryRes
 	return s.fireQuery(name, payload, *params)
 }
 
-// fireQuery is Query for internal queries too.
+// fireQuery is Query, but also accepts the names of internal queries.
 func (s *Serf) fireQuery(name string, payload []byte, params QueryParam) (*QueryResponse, error) {
 	if s.config.ProtocolVersion < 4 {
 		return nil, FeatureNotSupported
@@ -152,7 +158,7 @@ func (s *Serf) fireQuery(name string, payload []byte, params QueryParam) (*Query
 	}
 	var response *QueryResponse
 	var fired *serfagent.FiredQuery
-	err := s.inOrder(func() (err error) {
+	err := s.useAgent(func() (err error) {
 		if !s.pipe.hasRoom() {
 			return ErrBusy
 		}
@@ -198,7 +204,8 @@ func encodeFilters(params QueryParam) [][]byte {
 	return filters
 }
 
-// openQuery registers a query until its deadline. Its channels have room for as many answers as the members can send.
+// openQuery registers a query until its deadline. It makes channels with room for as many answers as the members can
+// send, up to maxAnswers.
 func (s *Serf) openQuery(key queryKey, params QueryParam) *QueryResponse {
 	room := s.members.size() + 16
 	if room > maxAnswers {
@@ -209,11 +216,11 @@ func (s *Serf) openQuery(key queryKey, params QueryParam) *QueryResponse {
 		response.acks = make(chan string, room)
 	}
 	s.openQueries[key] = response
-	response.expiry = time.AfterFunc(params.Timeout+time.Millisecond, func() { signal(s.queryDue) })
+	response.expiryTimer = time.AfterFunc(params.Timeout+time.Millisecond, func() { signal(s.queryDue) })
 	return response
 }
 
-// deliverAnswer passes an ack or a response to the query that it answers. order is held.
+// deliverAnswer passes an ack or a response to the query that it answers. The caller holds agentMu.
 func (s *Serf) deliverAnswer(received *serfagent.Received) {
 	answer := received.Answer
 	if answer == nil {
@@ -232,7 +239,7 @@ func (s *Serf) deliverAnswer(received *serfagent.Received) {
 
 // closeDue closes the queries whose deadline has passed.
 func (s *Serf) closeDue() error {
-	return s.inOrder(func() error {
+	return s.useAgent(func() error {
 		closedQueries, err := s.agent.CloseDue(s.now())
 		for _, closed := range closedQueries {
 			key := queryKey{closed.Time, closed.ID}

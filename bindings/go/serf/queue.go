@@ -2,19 +2,22 @@ package serf
 
 import "sync"
 
-// maxQueuedBytes is how many bytes of packets may wait for the proved agent, and how many bytes of states.
+// maxQueuedBytes is how many bytes of packets may wait for the proved agent. The same limit applies separately to
+// states.
 const maxQueuedBytes = 64 << 20
 
-// maxPacketLength is the maximum length of a packet. No agent sends one that does not fit into a datagram.
+// maxPacketLength is the maximum length of a packet in bytes. No agent sends a packet that does not fit into a
+// datagram.
 const maxPacketLength = 1 << 16
 
-// queuedMessage is a packet, or a state. isJoin says that the state came with a join that ignores old events.
+// queuedMessage is a packet or a state. isJoin is true if the state arrived with a join that ignores old events.
 type queuedMessage struct {
 	data   []byte
 	isJoin bool
 }
 
-// queue has the packets, or the states, that were received and wait. Its lock is held only briefly.
+// queue has the packets, or the states, that were received and wait for the proved agent. No method holds its lock for
+// long.
 type queue struct {
 	mu       sync.Mutex
 	messages []queuedMessage
@@ -25,7 +28,8 @@ type queue struct {
 
 func newQueue() *queue { return &queue{ready: make(chan struct{}, 1)} }
 
-// add queues a copy of a message, since memberlist reuses the bytes after the call. It returns false if there is no room.
+// add queues a copy of a message, since memberlist reuses the message's bytes after the call. It returns false if there
+// is no room.
 func (q *queue) add(data []byte, isJoin bool) bool {
 	q.mu.Lock()
 	defer q.mu.Unlock()
@@ -53,24 +57,25 @@ func (q *queue) next() (queuedMessage, bool) {
 	return first, true
 }
 
-// signalAgain signals again if messages are waiting. It is for a receiver that was signalled and processed none.
+// signalAgain signals again if messages are waiting. A receiver calls it if it consumed a signal but processed no
+// message.
 func (q *queue) signalAgain() {
 	q.mu.Lock()
 	defer q.mu.Unlock()
 	q.signalIfWaiting()
 }
 
-// signalIfWaiting signals if messages are waiting. mu is held.
+// signalIfWaiting signals if messages are waiting. The caller holds mu.
 func (q *queue) signalIfWaiting() {
 	if len(q.messages) > 0 {
 		signal(q.ready)
 	}
 }
 
-// maxQueuedLines is how many lines of the snapshot may wait.
+// maxQueuedLines is how many lines may wait to be written to the snapshot.
 const maxQueuedLines = 1 << 16
 
-// lineQueue has the lines of the snapshot that wait to be written.
+// lineQueue has the lines that wait to be written to the snapshot.
 type lineQueue struct {
 	mu           sync.Mutex
 	waiting      []string
@@ -80,7 +85,8 @@ type lineQueue struct {
 
 func newLineQueue() *lineQueue { return &lineQueue{ready: make(chan struct{}, 1)} }
 
-// add queues a line. If too many are waiting, the lines of all members are rewritten instead.
+// add queues a line. If too many lines are waiting, it drops the line and requests a rewrite of the lines of all
+// members.
 func (l *lineQueue) add(line string) {
 	if line == "" {
 		return
@@ -95,7 +101,7 @@ func (l *lineQueue) add(line string) {
 	signal(l.ready)
 }
 
-// rewriteAll requests that the lines of all members are rewritten.
+// rewriteAll requests a rewrite of the lines of all members.
 func (l *lineQueue) rewriteAll() {
 	l.mu.Lock()
 	defer l.mu.Unlock()
@@ -103,7 +109,8 @@ func (l *lineQueue) rewriteAll() {
 	signal(l.ready)
 }
 
-// take removes all waiting lines and returns them, and whether the lines of all members have to be rewritten.
+// take removes all waiting lines and returns them. It also returns whether the lines of all members have to be
+// rewritten.
 func (l *lineQueue) take() ([]string, bool) {
 	l.mu.Lock()
 	defer l.mu.Unlock()

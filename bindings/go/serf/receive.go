@@ -11,8 +11,8 @@ import (
 
 // receive processes packets and states while the pipe has room for their events, and closes the queries whose deadline has passed.
 func (s *Serf) receive() {
-	second := time.NewTicker(time.Second)
-	defer second.Stop()
+	secondTicker := time.NewTicker(time.Second)
+	defer secondTicker.Stop()
 	defer s.reportNames()
 	var reported reportedDrops
 	for {
@@ -35,7 +35,7 @@ func (s *Serf) receive() {
 			err = s.receivePackets()
 		case <-s.queryDue:
 			err = s.closeDue()
-		case <-second.C:
+		case <-secondTicker.C:
 			s.reportDropped(&reported)
 			s.reportNames()
 			s.states.signalAgain()
@@ -47,7 +47,7 @@ func (s *Serf) receive() {
 	}
 }
 
-// reportedDrops has the counts of dropped packets that were reported last.
+// reportedDrops has the counts of dropped packets at the time of the last report.
 type reportedDrops struct {
 	dropped, droppedFar, droppedKept int64
 	refused                          uint64
@@ -56,29 +56,29 @@ type reportedDrops struct {
 // reportDropped logs how many packets and states were dropped since the last report, and why.
 func (s *Serf) reportDropped(last *reportedDrops) {
 	refused, reasons := s.guardRefusals()
-	now := reportedDrops{s.dropped.Load(), s.droppedFar.Load(), s.droppedKept.Load(), refused}
-	if now.dropped > last.dropped {
-		s.log.Printf("[WARN] serf: %d packets or states were dropped, since too many are waiting", now.dropped-last.dropped)
+	current := reportedDrops{s.dropped.Load(), s.droppedFar.Load(), s.droppedKept.Load(), refused}
+	if current.dropped > last.dropped {
+		s.log.Printf("[WARN] serf: %d packets or states were dropped, since too many are waiting", current.dropped-last.dropped)
 	}
-	if now.droppedFar > last.droppedFar {
+	if current.droppedFar > last.droppedFar {
 		s.log.Printf("[WARN] serf: %d packets or states were dropped, since they contain a time that is implausibly far ahead",
-			now.droppedFar-last.droppedFar)
+			current.droppedFar-last.droppedFar)
 	}
-	if now.droppedKept > last.droppedKept {
+	if current.droppedKept > last.droppedKept {
 		s.log.Printf("[WARN] serf: %d packets or states were dropped, since the limit of %d bytes for kept events is reached",
-			now.droppedKept-last.droppedKept, s.config.KeepEventsSize)
+			current.droppedKept-last.droppedKept, s.config.KeepEventsSize)
 	}
-	if now.refused > last.refused {
+	if current.refused > last.refused {
 		s.log.Printf("[WARN] serf: %d packets, streams or parts of them were refused by the guard; by reason since the start: %s",
-			now.refused-last.refused, reasons)
+			current.refused-last.refused, reasons)
 	}
-	*last = now
+	*last = current
 }
 
-// mergeWaitingStates merges the states that wait, as far as there is room for their events.
-func (s *Serf) mergeWaitingStates() error { return s.inOrder(func() error { return nil }) }
+// mergeWaitingStates merges the waiting states, as long as there is room for their events.
+func (s *Serf) mergeWaitingStates() error { return s.useAgent(func() error { return nil }) }
 
-// mergeState merges another node's state: its events, and what it says about members. order is held.
+// mergeState merges another node's state: its events, and the statuses of its members. The caller holds agentMu.
 func (s *Serf) mergeState(state queuedMessage) error {
 	if s.isFar(state.data) {
 		s.droppedFar.Add(1)
@@ -86,7 +86,7 @@ func (s *Serf) mergeState(state queuedMessage) error {
 	}
 	events, err := s.mergeEvents(state)
 	s.mergedEvents.Add(int64(len(events)))
-	// (with an error too: some events may have entered before memory ran out)
+	// (even after an error, since the agent may have accepted some events before memory ran out)
 	s.stage(events...)
 	s.flushStaged()
 	if err != nil {
@@ -101,17 +101,17 @@ func (s *Serf) mergeState(state queuedMessage) error {
 	if members == nil {
 		return nil
 	}
-	isWronglyLeft, time := s.members.mergeState(members)
-	if !isWronglyLeft {
+	mustRefute, leaveTime := s.members.mergeState(members)
+	if !mustRefute {
 		return nil
 	}
-	// (the join intent has to be later, even if the clock in the state isn't)
-	err = s.agent.ObserveMember(time)
+	// (the join intent has to be later than that leave, even if the member clock in the state isn't)
+	err = s.agent.ObserveMember(leaveTime)
 	s.refuteLeave()
 	return err
 }
 
-// mergeEvents merges the events of a state. If there is no room for them, it only raises the member clock.
+// mergeEvents merges the events of a state. If there is no room for the events, it only raises the member clock.
 func (s *Serf) mergeEvents(state queuedMessage) ([]*serfagent.Event, error) {
 	if state.isJoin || s.keptEvents.admitState(state.data) {
 		return s.agent.Merge(state.data, state.isJoin)
@@ -124,12 +124,12 @@ func (s *Serf) mergeEvents(state queuedMessage) ([]*serfagent.Event, error) {
 	return nil, s.agent.ObserveMember(times.member)
 }
 
-// maxPacketsPerTurn is how many packets are read in one turn, so that a flood of intents and relays does not delay the packets of the
-// proved agent.
+// maxPacketsPerTurn is how many packets receivePackets reads in one call. The limit keeps a flood of intents and relays
+// from delaying the packets of the proved agent.
 const maxPacketsPerTurn = 4 * Burst
 
-// receivePackets reads the waiting packets. It applies intents and forwards relays itself, and passes the packets of the proved agent on,
-// up to Burst of them together.
+// receivePackets reads the waiting packets. It applies intents and forwards relays itself, and passes all other packets
+// to the proved agent in bursts of up to Burst packets.
 func (s *Serf) receivePackets() error {
 	var burst [][]byte
 	for count := 0; count < maxPacketsPerTurn && len(burst) < Burst; count++ {
@@ -162,15 +162,15 @@ func (s *Serf) receivePackets() error {
 	return s.processBurst(burst)
 }
 
-// processBurst processes packets, and the firings that wait, with one flush. It returns an error if the node accepts nothing more, or if
-// memory ran out before some of the packets were processed.
+// processBurst processes packets and the waiting firings with one flush. It returns an error if the node accepts
+// nothing more, or if memory ran out before all packets were processed.
 func (s *Serf) processBurst(packets [][]byte) error {
 	inputs := make([]Packet, len(packets))
 	for i, packet := range packets {
 		inputs[i] = Packet{packet, s.ownTagsPass(packet)}
 	}
 	var outcomes []serfagent.Outcome
-	err := s.inOrder(func() (err error) {
+	err := s.useAgent(func() (err error) {
 		outcomes, err = s.runBurst(inputs)
 		return err
 	})
@@ -187,8 +187,8 @@ func (s *Serf) processBurst(packets [][]byte) error {
 	return err
 }
 
-// runBurst calls the proved agent for a burst of packets and of the waiting firings, and publishes what it hands out. It returns the
-// outcomes of the packets. order is held.
+// runBurst passes a burst of packets and waiting firings to the proved agent, and publishes the events and queries that
+// the agent hands out. It returns the outcomes of the packets. The caller holds agentMu.
 func (s *Serf) runBurst(packets []Packet) ([]serfagent.Outcome, error) {
 	var firings []*firing
 	var inputs []Firing
@@ -204,13 +204,13 @@ func (s *Serf) runBurst(packets []Packet) ([]serfagent.Outcome, error) {
 	began := time.Now()
 	outcomes, err := s.agent.TakeAll(s.now(), packets, inputs)
 	took := time.Since(began)
-	metrics.MeasureSince(appendKey, began)
+	packetOutcomes, firingOutcomes := splitOutcomes(outcomes, len(packets))
+	s.recordFirings(firings, firingOutcomes, err)
+	// (the callers are woken early, so that they can fire again while this goroutine does the rest)
+	s.firings.wakeCallers(firings, took)
+	metrics.MeasureSince(appendKey, time.Now().Add(-took))
 	addSample(len(packets)+len(firings), burstKey)
-	ofPackets, ofFirings := splitOutcomes(outcomes, len(packets))
-	s.recordFirings(firings, ofFirings, err)
-	// (callers that have their results fire again soon, while the rest is done here)
-	s.firings.report(firings, took)
-	for _, outcome := range ofPackets {
+	for _, outcome := range packetOutcomes {
 		if received := outcome.Received; received != nil {
 			s.countIgnored(received)
 			s.stage(received.Event)
@@ -218,39 +218,39 @@ func (s *Serf) runBurst(packets []Packet) ([]serfagent.Outcome, error) {
 			s.deliverAnswer(received)
 		}
 	}
-	for i, outcome := range ofFirings {
+	for i, outcome := range firingOutcomes {
 		if outcome.Fired != nil {
 			s.stageEvent(outcome.Fired.Event, inputs[i].Payload)
 		}
 	}
 	s.flushStaged()
-	return ofPackets, err
+	return packetOutcomes, err
 }
 
-// splitOutcomes separates a burst's outcomes of packets from those of firings, which follow them. If memory ran out, the last ones are
-// missing.
-func splitOutcomes(outcomes []serfagent.Outcome, packetCount int) (ofPackets, ofFirings []serfagent.Outcome) {
+// splitOutcomes separates the outcomes of a burst's packets from those of its firings, which follow them. If memory ran
+// out, the last outcomes are missing.
+func splitOutcomes(outcomes []serfagent.Outcome, packetCount int) (packetOutcomes, firingOutcomes []serfagent.Outcome) {
 	if len(outcomes) <= packetCount {
 		return outcomes, nil
 	}
 	return outcomes[:packetCount], outcomes[packetCount:]
 }
 
-// recordFirings sets the results of firings, and queues their packets for gossip. A firing without an outcome gets the error. order is
-// held.
+// recordFirings sets the results of firings, and queues their packets for gossip. A firing without an outcome gets the
+// error. The caller holds agentMu.
 func (s *Serf) recordFirings(firings []*firing, outcomes []serfagent.Outcome, err error) {
-	sent := make([]broadcast, 0, len(firings))
+	broadcasts := make([]broadcast, 0, len(firings))
 	for i, firing := range firings {
 		firing.err = err
 		if i < len(outcomes) {
 			firing.err = outcomes[i].Err
 			if fired := outcomes[i].Fired; fired != nil {
 				firing.time = LamportTime(fired.Event.Time)
-				sent = append(sent, broadcast{fired.Packet, nil})
+				broadcasts = append(broadcasts, broadcast{fired.Packet, nil})
 			}
 		}
 	}
-	s.events.add(sent...)
+	s.events.add(broadcasts...)
 }
 
 // receiveIntent applies an intent. It returns an error only if the node accepts nothing more.
@@ -260,7 +260,7 @@ func (s *Serf) receiveIntent(packet []byte) error {
 		s.log.Printf("[DEBUG] serf: an intent was refused: %v", err)
 		return nil
 	}
-	if err := s.inOrder(func() error { return s.agent.ObserveMember(intent.Time) }); isFinal(err) {
+	if err := s.useAgent(func() error { return s.agent.ObserveMember(intent.Time) }); isFinal(err) {
 		return err
 	} else if err != nil {
 		s.log.Printf("[WARN] serf: an intent was not processed: %v", err)
@@ -270,7 +270,7 @@ func (s *Serf) receiveIntent(packet []byte) error {
 	if outcome.isNew {
 		s.queueBroadcast(s.intents, packet, nil)
 	}
-	if outcome.isWronglyLeft {
+	if outcome.mustRefute {
 		s.refuteLeave()
 	}
 	return nil
@@ -288,7 +288,8 @@ func parseIntent(packet []byte) (serfagent.Intent, error) {
 	return serfagent.Intent{}, err
 }
 
-// ackAndRebroadcast sends this node's ack of a query, and queues the packet for gossip if other nodes are to receive it.
+// ackAndRebroadcast sends this node's ack of a query if there is one, and queues the packet for gossip if the node has
+// to rebroadcast it.
 func (s *Serf) ackAndRebroadcast(packet []byte, received *serfagent.Received) {
 	if received.Query != nil && received.Ack != nil {
 		s.sendReply(received.Query, received.Ack)
@@ -302,7 +303,7 @@ func (s *Serf) ackAndRebroadcast(packet []byte, received *serfagent.Received) {
 	}
 }
 
-// stage prepares events that were handed out. flushStaged publishes them. order is held.
+// stage prepares events that were handed out, until flushStaged publishes them. The caller holds agentMu.
 func (s *Serf) stage(events ...*serfagent.Event) {
 	for _, event := range events {
 		if event != nil {
@@ -311,30 +312,32 @@ func (s *Serf) stage(events ...*serfagent.Event) {
 	}
 }
 
-// stageEvent prepares an event. fired is the payload with which it was fired here, or nil. order is held.
-func (s *Serf) stageEvent(event *serfagent.Event, fired []byte) {
-	s.countKept(event)
-	s.times.add(event.Time)
+// stageEvent prepares an event. If this node fired the event, firedPayload is the payload that the caller passed; otherwise it
+// is nil. The caller holds agentMu.
+func (s *Serf) stageEvent(event *serfagent.Event, firedPayload []byte) {
+	s.countKeptEvent(event)
+	s.seenTimes.add(event.Time)
 	s.checkForGap(event.Time)
-	delivered := UserEvent{LamportTime(event.Time), s.eventNames.count(event.Name), payloadOf(event.Payload, fired), event.Coalesce}
-	if s.open != nil {
-		s.open.add(delivered)
+	delivered := UserEvent{LamportTime(event.Time), s.eventNames.countName(event.Name), payloadOf(event.Payload, firedPayload), event.Coalesce}
+	if s.openEvents != nil {
+		s.openEvents.add(delivered)
 	}
 	s.staged = append(s.staged, delivered)
 }
 
-// payloadOf returns a payload as Serf delivers it: one without bytes is nil, unless this node fired it with an empty slice.
-func payloadOf(payload, fired []byte) []byte {
+// payloadOf returns a payload as Serf delivers it: an empty payload is nil, unless this node fired the event with an
+// empty slice that isn't nil.
+func payloadOf(payload, firedPayload []byte) []byte {
 	switch {
 	case len(payload) > 0:
 		return payload
-	case fired != nil:
+	case firedPayload != nil:
 		return []byte{}
 	}
 	return nil
 }
 
-// flushStaged publishes the staged events and queries. order is held.
+// flushStaged publishes the staged events and queries. The caller holds agentMu.
 func (s *Serf) flushStaged() {
 	s.publish(s.staged...)
 	for i := range s.staged {
@@ -343,25 +346,27 @@ func (s *Serf) flushStaged() {
 	s.staged = s.staged[:0]
 }
 
-// maxUnanswered is how many of the last queries that were handed out can still be answered: twice the number that may wait for EventCh.
+// maxUnanswered is how many queries can be answered at once: the last ones that were handed out. It is twice the number
+// of events that may wait for EventCh.
 const maxUnanswered = 2 * Waiting
 
-// InternalQueryPrefix begins the names of queries that agents send each other. EventCh does not deliver them.
+// InternalQueryPrefix is the prefix of the names of queries that agents send each other. EventCh does not deliver these
+// queries.
 const InternalQueryPrefix = "_serf_"
 
-// forgetQuery makes the proved agent forget a query that won't be answered. The agent may have forgotten it already, because it was
-// answered or its deadline has passed.
+// forgetQuery makes the proved agent forget a query that this node won't answer. The agent may have forgotten the query
+// already, because it was answered or its deadline has passed.
 func (s *Serf) forgetQuery(number uint64) { _ = s.agent.Forget(number) }
 
 // stageQuery prepares a query that was handed out, as stageEvent does for events. It passes internal queries on to answerInternalQueries.
-func (s *Serf) stageQuery(query *serfagent.PendingQuery, fired []byte) {
+func (s *Serf) stageQuery(query *serfagent.PendingQuery, firedPayload []byte) {
 	if query == nil {
 		return
 	}
 	if query.Number > maxUnanswered {
 		s.forgetQuery(query.Number - maxUnanswered)
 	}
-	name := s.queryNames.count(query.Name)
+	name := s.queryNames.countName(query.Name)
 	if strings.HasPrefix(name, InternalQueryPrefix) {
 		select {
 		case s.internalQueries <- query:
@@ -371,5 +376,5 @@ func (s *Serf) stageQuery(query *serfagent.PendingQuery, fired []byte) {
 		}
 		return
 	}
-	s.staged = append(s.staged, &Query{LTime: LamportTime(query.Time), Name: name, Payload: payloadOf(query.Payload, fired), serf: s, handed: query})
+	s.staged = append(s.staged, &Query{LTime: LamportTime(query.Time), Name: name, Payload: payloadOf(query.Payload, firedPayload), serf: s, pending: query})
 }

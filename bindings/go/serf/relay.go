@@ -15,7 +15,7 @@ type relay struct {
 	message []byte
 }
 
-// relayHeader is encoded before that message.
+// relayHeader is the header that precedes the message in the packet of a relay.
 type relayHeader struct {
 	DestAddr destination
 	DestName string

@@ -2,18 +2,18 @@ package serf
 
 import "sync"
 
-// seenTimes remembers at which times of the window this node was handed an event. A time that another node has drawn, and at which this
-// node has no event, is the time of an event that this node may have missed.
+// seenTimes remembers at which times of the window this node has handed out an event. If the node has seen an event
+// with a later time, but none at some earlier time of the window, it may have missed an event at that earlier time.
 type seenTimes struct {
 	mu sync.Mutex
-	// slots has one above the last seen time of each slot.
+	// slots has, for each slot, the last seen time plus one, or 0 if none was seen.
 	slots []uint64
-	// first is the first time that counts, and next is later than all seen times.
+	// first is the first time that can count as missing, and next is later than all seen times.
 	first, next uint64
 }
 
-// newSeenTimes starts at the clock of a file, which is 0 or 1 if the file has no event. Otherwise the first event decides which time is the
-// first one that counts.
+// newSeenTimes starts at the event clock of a file. If the clock is 0 or 1, the file has no event, and the first event
+// decides which time is the first one that can count as missing.
 func newSeenTimes(window int, clock uint64) *seenTimes {
 	t := &seenTimes{slots: make([]uint64, window)}
 	if clock > 1 {
@@ -40,19 +40,20 @@ func (t *seenTimes) add(time uint64) {
 	}
 }
 
-// missing returns how many times of the window, from minimum on, have no event although a later time has one.
-func (t *seenTimes) missing(minimum uint64) int {
+// countMissing returns for how many times of the window, from minimum on, no event was seen although an event with a later
+// time was.
+func (t *seenTimes) countMissing(minimum uint64) int {
 	t.mu.Lock()
 	defer t.mu.Unlock()
-	from := t.first
-	if window := uint64(len(t.slots)); t.next > window && t.next-window > from {
-		from = t.next - window
+	firstTime := t.first
+	if window := uint64(len(t.slots)); t.next > window && t.next-window > firstTime {
+		firstTime = t.next - window
 	}
-	if minimum > from {
-		from = minimum
+	if minimum > firstTime {
+		firstTime = minimum
 	}
 	count := 0
-	for time := from; time < t.next; time++ {
+	for time := firstTime; time < t.next; time++ {
 		if t.slots[time%uint64(len(t.slots))] != time+1 {
 			count++
 		}
@@ -69,11 +70,11 @@ func (s *Serf) eventClock() uint64 {
 	return clocks.Event
 }
 
-// eventsMissing returns how many times of the window this node may have missed the events of.
+// eventsMissing returns at how many times of the window this node may have missed events.
 func (s *Serf) eventsMissing() int {
 	clocks, err := s.agent.Clocks()
 	if err != nil {
 		return 0
 	}
-	return s.times.missing(clocks.EventMinimum)
+	return s.seenTimes.countMissing(clocks.EventMinimum)
 }

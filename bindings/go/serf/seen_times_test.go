@@ -12,26 +12,26 @@ func TestSeenTimes(t *testing.T) {
 		time    uint64
 		missing int
 	}{{100, 0}, {101, 0}, {104, 2}, {102, 1}, {102, 1}, {90, 1}, {103, 0}, {120, 7}, {119, 6}, {121, 5}, {122, 4}, {5000, 7}} {
-		if seen.add(step.time); seen.missing(0) != step.missing {
-			t.Error(step, seen.missing(0))
+		if seen.add(step.time); seen.countMissing(0) != step.missing {
+			t.Error(step, seen.countMissing(0))
 		}
 	}
-	if seen.missing(4998) != 2 || seen.missing(6000) != 0 {
-		t.Error(seen.missing(4998), seen.missing(6000))
+	if seen.countMissing(4998) != 2 || seen.countMissing(6000) != 0 {
+		t.Error(seen.countMissing(4998), seen.countMissing(6000))
 	}
 	// The times since the clock of a file can be missing too.
 	for clock, missing := range map[uint64]int{0: 0, 1: 0, 40: 2} {
 		resumed := newSeenTimes(8, clock)
-		if resumed.missing(0) != 0 {
-			t.Error(clock, resumed.missing(0))
+		if resumed.countMissing(0) != 0 {
+			t.Error(clock, resumed.countMissing(0))
 		}
-		if resumed.add(42); resumed.missing(0) != missing {
-			t.Error(clock, resumed.missing(0))
+		if resumed.add(42); resumed.countMissing(0) != missing {
+			t.Error(clock, resumed.countMissing(0))
 		}
 	}
 }
 
-// Stats counts the times that a node may have missed, and what it ignored as too old.
+// Stats counts the times at which a node may have missed events, and the events that it ignored as too old.
 func TestMissesAreCounted(t *testing.T) {
 	a := startNode(t, "a", "", withoutGossip)
 	event := func(time uint64, name string) {
@@ -58,7 +58,7 @@ func TestMissesAreCounted(t *testing.T) {
 
 // The budget allows a number of exchanges at once, and after that one in each interval.
 func TestExchangeBudget(t *testing.T) {
-	b, now := exchangeBudget{left: maxExchanges}, time.Now()
+	b, now := exchangeBudget{available: maxExchanges}, time.Now()
 	for i := 0; i < maxExchanges; i++ {
 		if wait := b.take(now); wait != 0 {
 			t.Fatal(i, wait)
@@ -78,18 +78,18 @@ func TestExchangeBudget(t *testing.T) {
 	if wait := b.take(now); wait != exchangeInterval {
 		t.Error(wait)
 	}
-	if b.take(now.Add(time.Hour)); b.left != maxExchanges-1 {
-		t.Error("more is left than the maximum:", b.left)
+	if b.take(now.Add(time.Hour)); b.available != maxExchanges-1 {
+		t.Error("more is left than the maximum:", b.available)
 	}
 }
 
 // A node stops requesting states when several in a row contained nothing new, and sooner if it knows of no missing time.
-func TestHasAskedEnough(t *testing.T) {
+func TestShouldStopExchanges(t *testing.T) {
 	for _, test := range []struct {
 		fruitless, missing int
 		enough             bool
 	}{{0, 0, false}, {maxFruitlessIfComplete - 1, 0, false}, {maxFruitlessIfComplete, 0, true}, {maxFruitlessIfComplete, 1, false}, {maxFruitless - 1, 9, false}, {maxFruitless, 9, true}} {
-		if hasAskedEnough(test.fruitless, func() int { return test.missing }) != test.enough {
+		if shouldStopExchanges(test.fruitless, func() int { return test.missing }) != test.enough {
 			t.Error(test)
 		}
 	}

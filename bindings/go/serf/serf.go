@@ -1,10 +1,10 @@
-// Package serf is a node of a Serf cluster, with the interface of HashiCorp's package serf: a program that uses that package changes its
-// import and nothing else. Stock nodes and nodes of this package can be in one cluster.
+// Package serf is a node of a Serf cluster, with the interface of HashiCorp's package serf. A program that uses
+// HashiCorp's package only has to change its import. Stock nodes and nodes of this package can be in one cluster.
 //
-// It adds one promise: EventCh delivers an event or a query at most once in all lives of a node that keeps its SnapshotPath, whatever the
-// network sends and whenever the process is killed. Each packet of an event, a query, an answer, a state and an intent is processed by the
-// proved agent (package serfagent). This package is tested, not proved. docs/GO.md has what a program must do, and how this package
-// differs from Serf's.
+// This package adds one promise: EventCh delivers an event or a query at most once in all lives of a node that keeps
+// its SnapshotPath, whatever the network sends and whenever the process is killed. The proved agent (package serfagent)
+// processes each packet of an event, a query, an answer, a state and an intent. This package itself is tested, not
+// proved. docs/GO.md says what a program must do, and how this package differs from Serf's.
 package serf
 
 import (
@@ -24,11 +24,12 @@ import (
 	"kitchenrue.example/serfagent"
 )
 
-// endGrace is how long, after Shutdown, the events that were handed out may still be received from EventCh.
+// endGrace is how long after Shutdown the program may still receive the events that were handed out from EventCh.
 const endGrace = 500 * time.Millisecond
 
-// How many bytes of a datagram memberlist needs in addition to one gossiped packet: two for the header of a compound message, two for the
-// packet's length and one for its type. With a key there are a version, a nonce and a tag as well.
+// gossipOverhead is how many bytes of a datagram memberlist needs in addition to one gossiped packet: two for the
+// header of a compound message, two for the packet's length and one for its type. With a key, memberlist also adds a
+// version, a nonce and a tag, which take keyOverhead bytes.
 const (
 	gossipOverhead = 2 + 2 + 1
 	keyOverhead    = 1 + 12 + 16
@@ -56,100 +57,109 @@ func (s SerfState) String() string {
 
 // Serf is a node of a cluster. Many goroutines may call its methods at once.
 type Serf struct {
-	config      *Config
-	log         *log.Logger
-	agent       Agent
-	keys        *keyring
-	members     *memberList
-	coordinates *coordinates
-	snapshot    *snapshotFile
-	previous    []PreviousNode
-	list        atomic.Pointer[memberlist.Memberlist]
-	guard       *guard.Transport
-	began       time.Time
+	config         *Config
+	log            *log.Logger
+	agent          Agent
+	keys           *keyring
+	members        *memberList
+	coordinates    *coordinates
+	snapshot       *snapshotFile
+	previousNodes  []PreviousNode
+	memberlistNode atomic.Pointer[memberlist.Memberlist]
+	guard          *guard.Transport
+	startTime      time.Time
 
-	ctx      context.Context
-	stop     context.CancelFunc
-	routines sync.WaitGroup
-	// shutdown is closed after the last event. shutdownMu is held while the node ends, and fault is the error that ended it.
-	shutdown   chan struct{}
+	ctx        context.Context
+	cancel     context.CancelFunc
+	goroutines sync.WaitGroup
+	// shutdownCh is closed after the last event was delivered. shutdownMu is held while the node ends, and endReason is
+	// the error that ended it.
+	shutdownCh chan struct{}
 	shutdownMu sync.Mutex
-	fault      atomic.Pointer[error]
+	endReason  atomic.Pointer[error]
 	// stateMu guards state.
 	stateMu sync.Mutex
 	state   SerfState
 
 	coalescer *coalescer
 	pipe      *pipe
-	// open has the open events, or is nil without TrackHandlers.
-	open *openEvents
-	// undelivered has the number of events that were never received from EventCh.
+	// openEvents has the open events, or is nil without TrackHandlers.
+	openEvents *openEvents
+	// undelivered receives the number of events that nobody received from EventCh.
 	undelivered chan int
 
-	// order is held during each call of the proved agent that hands out events, and its flush, until these events are in the pipe.
-	// memberlist's callbacks never lock it.
-	order   sync.Mutex
+	// agentMu is held during each call of the proved agent that hands out events, during the flush of that call, and
+	// until these events are in the pipe. memberlist's callbacks never lock it.
+	agentMu sync.Mutex
 	isEnded bool
-	// staged has what was handed out while order is held, until flushStaged publishes it. The slice is reused.
+	// staged has the events and queries that were handed out while agentMu is held, until flushStaged publishes them. The
+	// slice is reused.
 	staged      []Event
 	openQueries map[queryKey]*QueryResponse
 	firings     *firingQueue
 
-	// Packets and states that were received and wait, and how many were dropped because there was no room, or because of a far time.
+	// packets and states are the queues of received packets and states. dropped counts those that were dropped because
+	// there was no room, and droppedFar those that were dropped because of a far time.
 	packets, states     *queue
 	dropped, droppedFar atomic.Int64
 	// queryDue has a value when the deadline of a query may have passed.
 	queryDue chan struct{}
-	// internalQueries are queries that agents send each other. conflicts has a value if another node claims this node's name.
+	// internalQueries has the received queries that agents send each other. conflicts has a value if another node
+	// claims this node's name.
 	internalQueries chan *serfagent.PendingQuery
 	conflicts       chan struct{}
 
-	// The packets that wait to be gossiped, and the maximum length of a packet that memberlist can gossip.
+	// intents, queries and events have the packets that wait to be gossiped. maxGossipPacket is the maximum length of a
+	// packet that memberlist can gossip.
 	intents, queries, events *broadcastQueue
 	maxGossipPacket          int
-	// longTurns counts how often all packets of a queue were longer than half of the room.
-	longTurns atomic.Uint64
+	// longPacketTurns counts how often GetBroadcasts found a queue whose packets are all longer than half of the room.
+	longPacketTurns atomic.Uint64
 
-	// ignoringJoins counts the running joins that ignore old events. announcing is held while the node sends its own join or leave intent.
-	// announceNeeded has a value when a join intent is to be sent, and refuteNeeded when one is to be sent if others believe that the node left.
+	// ignoringJoins counts the running joins that ignore old events. announceMu is held while the node sends its own
+	// join or leave intent. announceNeeded has a value when the node has to send a join intent. refuteNeeded has a
+	// value when it has to send one if other nodes still believe that it left.
 	ignoringJoins                atomic.Int64
-	announcing                   sync.Mutex
+	announceMu                   sync.Mutex
 	announceNeeded, refuteNeeded chan struct{}
 
 	tagsMu   sync.Mutex
 	tags     map[string]string
 	nodeMeta []byte
 
-	// lastStateMu guards the last state that was made. memberlist's requests for a new one go through stateRequests.
+	// lastStateMu guards lastState, the last state that was encoded. memberlist's requests for a new state go through
+	// stateRequests.
 	lastStateMu   sync.Mutex
 	lastState     []byte
 	stateRequests chan chan<- []byte
 
 	memberLines *lineQueue
 
-	// keptEvents limits the kept events, or is nil if none are kept. droppedKept counts what was dropped for lack of room there. grownBytes
-	// is how much the file has grown since it was last checked; order is held.
+	// keptEvents limits the kept events. It is nil if the node keeps none. droppedKept counts the packets and states
+	// that were dropped because keptEvents had no room. grownBytes is by how many bytes the file has grown since the
+	// last check; agentMu guards it.
 	keptEvents  *keptEvents
 	droppedKept atomic.Int64
 	grownBytes  int
 
-	// nextEventTime is later than the times of all events that were handed out; order is held. missedEvents has a value when the node may
-	// have missed events.
+	// nextEventTime is one more than the largest time of all events that were handed out; agentMu guards it.
+	// missedEvents has a value when the node may have missed events.
 	nextEventTime uint64
 	missedEvents  chan struct{}
-	// times has the times of the window of which the node was handed an event. mergedEvents is how many events the states of other nodes
-	// contained, and ignored has the numbers of ignored events and queries, in the order of ignoreReasons.
-	times        *seenTimes
-	mergedEvents atomic.Int64
-	ignored      [len(ignoreReasons)]atomic.Int64
+	// seenTimes has the times of the window at which the node has handed out an event. mergedEvents is how many new events
+	// the states of other nodes contained. ignoredCounts has the numbers of ignored events and queries, in the order of
+	// ignoreReasons.
+	seenTimes     *seenTimes
+	mergedEvents  atomic.Int64
+	ignoredCounts [len(ignoreReasons)]atomic.Int64
 
-	// The counts of events, and of queries, by name.
+	// eventNames and queryNames count events and queries by name.
 	eventNames, queryNames *nameCounter
 }
 
 // Create creates a node and joins one of the members that its snapshot names. It copies the configuration.
 //
-// If Create returns an error, nothing is left behind except a file that it may have created.
+// If Create returns an error, it has closed everything that it opened. Only a snapshot that it created may remain.
 func Create(conf *Config) (*Serf, error) {
 	config, err := conf.withDefaults()
 	if err != nil {
@@ -167,14 +177,6 @@ func Create(conf *Config) (*Serf, error) {
 	if err != nil {
 		return nil, err
 	}
-	if config.Wrap != nil {
-		wrapped, err := config.Wrap(agent, config.agentSettings())
-		if err != nil {
-			closeAgent(agent, file)
-			return nil, err
-		}
-		agent = wrapped
-	}
 	s, err := create(config, agent, file, keys, meta, previous)
 	if err != nil {
 		closeAgent(agent, file)
@@ -191,11 +193,11 @@ func closeAgent(agent Agent, file *snapshotFile) {
 }
 
 // create creates a node over a proved agent.
-func create(c *Config, agent Agent, file *snapshotFile, keys *keyring, meta []byte, previous []PreviousNode) (*Serf, error) {
-	ctx, stop := context.WithCancel(context.Background())
+func create(c *Config, agent Agent, file *snapshotFile, keys *keyring, meta []byte, previousNodes []PreviousNode) (*Serf, error) {
+	ctx, cancel := context.WithCancel(context.Background())
 	s := &Serf{
-		config: c, log: c.logger(), agent: agent, keys: keys, snapshot: file, previous: previous, began: time.Now(), ctx: ctx, stop: stop,
-		shutdown: make(chan struct{}), pipe: newPipe(), undelivered: make(chan int, 1),
+		config: c, log: c.logger(), agent: agent, keys: keys, snapshot: file, previousNodes: previousNodes, startTime: time.Now(), ctx: ctx, cancel: cancel,
+		shutdownCh: make(chan struct{}), pipe: newPipe(), undelivered: make(chan int, 1),
 		openQueries: map[queryKey]*QueryResponse{}, firings: newFiringQueue(), packets: newQueue(),
 		states: newQueue(), queryDue: make(chan struct{}, 1),
 		internalQueries: make(chan *serfagent.PendingQuery, 64), conflicts: make(chan struct{}, 1), missedEvents: make(chan struct{}, 1),
@@ -204,29 +206,29 @@ func create(c *Config, agent Agent, file *snapshotFile, keys *keyring, meta []by
 		eventNames:  newNameCounter("events"), queryNames: newNameCounter("queries"),
 	}
 	s.coalescer = newCoalescer(c, s.pipe.add)
-	s.coalescer.supersede = s.supersede
+	s.coalescer.markSuperseded = s.markSuperseded
 	s.members = newMembers(c, s.log, func(e MemberEvent) { s.publish(e) }, s.memberLines.add)
 	var err error
 	if s.lastState, err = agent.LocalState(nil, nil); err != nil {
-		stop()
+		cancel()
 		return nil, err
 	}
 	if s.coordinates, err = newCoordinates(c); err != nil {
-		stop()
+		cancel()
 		return nil, err
 	}
-	s.times = newSeenTimes(c.EventBuffer, s.eventClock())
+	s.seenTimes = newSeenTimes(c.EventBuffer, s.eventClock())
 	s.warnOfFarClocks()
-	if err := s.limitKept(); err != nil {
-		stop()
+	if err := s.limitKeptEvents(); err != nil {
+		cancel()
 		return nil, err
 	}
 	if err := s.trackHandlers(); err != nil {
-		stop()
+		cancel()
 		return nil, &FieldError{"SnapshotPath", err}
 	}
 	if err := s.listen(); err != nil {
-		stop()
+		cancel()
 		return nil, err
 	}
 	go func() {
@@ -238,15 +240,16 @@ func create(c *Config, agent Agent, file *snapshotFile, keys *keyring, meta []by
 	}()
 	for _, run := range []func(){
 		s.receive, s.fireAll, s.serveStates, s.answerInternalQueries, s.resolveConflicts, s.announceJoins,
-		s.writeSnapshot, s.writeDone, s.reap, s.checkQueues,
+		s.writeSnapshot, s.appendDeferredLines, s.reap, s.checkQueues,
 	} {
-		s.routines.Add(1)
+		s.goroutines.Add(1)
 		go func(run func()) {
-			defer s.routines.Done()
+			defer s.goroutines.Done()
 			run()
 		}(run)
 	}
-	// (these may wait for a node that does not answer, so Shutdown does not wait for them; they never call the proved agent)
+	// (these goroutines may wait for a node that does not answer, so Shutdown does not wait for them; they never call
+	// the proved agent)
 	go s.reconnect()
 	go s.rejoin()
 	go s.catchUp()
@@ -256,13 +259,13 @@ func create(c *Config, agent Agent, file *snapshotFile, keys *keyring, meta []by
 // listen starts memberlist.
 func (s *Serf) listen() error {
 	conf := s.config.MemberlistConfig
-	calls := delegate{s}
-	conf.Name, conf.Delegate, conf.Events, conf.Conflict = s.config.NodeName, calls, calls, calls
+	callbacks := delegate{s}
+	conf.Name, conf.Delegate, conf.Events, conf.Conflict = s.config.NodeName, callbacks, callbacks, callbacks
 	if s.coordinates != nil {
-		conf.Ping = calls
+		conf.Ping = callbacks
 	}
 	if s.config.Merge != nil {
-		conf.Merge, conf.Alive = calls, calls
+		conf.Merge, conf.Alive = callbacks, callbacks
 	}
 	conf.DelegateProtocolMin, conf.DelegateProtocolMax = ProtocolVersionMin, ProtocolVersionMax
 	conf.DelegateProtocolVersion, conf.ProtocolVersion = s.config.ProtocolVersion, ProtocolVersionMap[s.config.ProtocolVersion]
@@ -278,7 +281,7 @@ func (s *Serf) listen() error {
 	}
 	node, err := memberlist.Create(conf)
 	if err != nil {
-		// (like Serf, this leaves a program's own transport to memberlist, which shuts it down if it has used it)
+		// (as in Serf, memberlist shuts down the program's own transport if it has used it)
 		if !isOwnTransport {
 			_ = conf.Transport.Shutdown()
 		}
@@ -292,7 +295,7 @@ func (s *Serf) listen() error {
 	if conf.EncryptionEnabled() {
 		s.maxGossipPacket -= keyOverhead
 	}
-	s.list.Store(node)
+	s.memberlistNode.Store(node)
 	return nil
 }
 
@@ -303,14 +306,14 @@ func (s *Serf) publish(events ...Event) {
 	}
 }
 
-// now returns the time since the node began, in nanoseconds. It never goes back.
-func (s *Serf) now() uint64 { return uint64(time.Since(s.began)) }
+// now returns the time since the node began, in nanoseconds. It never decreases.
+func (s *Serf) now() uint64 { return uint64(time.Since(s.startTime)) }
 
-// inOrder merges the waiting states, as long as there is room for their events, and then calls the proved agent. After the end it returns
-// ErrEnded.
-func (s *Serf) inOrder(call func() error) error {
-	s.order.Lock()
-	defer s.order.Unlock()
+// useAgent merges the waiting states, as long as there is room for their events, and then makes a call of the proved
+// agent. After the node has ended, it returns ErrEnded.
+func (s *Serf) useAgent(call func() error) error {
+	s.agentMu.Lock()
+	defer s.agentMu.Unlock()
 	for !s.isEnded && s.pipe.hasRoom() {
 		state, ok := s.states.next()
 		if !ok {
@@ -338,18 +341,18 @@ func (s *Serf) endOnFailure(err error) error {
 	return err
 }
 
-// endWith makes the node end by itself, for this reason. It does not wait for that.
+// endWith makes the node end by itself for this reason. It does not wait until the node has ended.
 func (s *Serf) endWith(reason error) {
-	if s.fault.CompareAndSwap(nil, &reason) {
+	if s.endReason.CompareAndSwap(nil, &reason) {
 		s.log.Printf("[ERR] serf: the node ends: %v", reason)
 		go s.Shutdown()
 	}
 }
 
-// Fault returns why the node ended by itself, for example because its disk failed, or nil if it did not. It is set before ShutdownCh is
-// closed. Serf has no such method.
+// Fault returns the error because of which the node ended by itself, for example an error of its disk, or nil if it did
+// not end by itself. The error is set before ShutdownCh is closed. Serf has no such method.
 func (s *Serf) Fault() error {
-	if reason := s.fault.Load(); reason != nil {
+	if reason := s.endReason.Load(); reason != nil {
 		return *reason
 	}
 	return nil
@@ -362,36 +365,36 @@ func (s *Serf) State() SerfState {
 	return s.state
 }
 
-// Shutdown ends the node at once, without a leave. Events that were handed out can be received from EventCh for another half second, and
-// then ShutdownCh is closed. A second call waits for the first.
+// Shutdown ends the node at once, without a leave. The program can receive events that were handed out from EventCh for
+// another half second, and then ShutdownCh is closed. A second call waits for the first.
 func (s *Serf) Shutdown() error {
 	s.shutdownMu.Lock()
 	defer s.shutdownMu.Unlock()
 	s.stateMu.Lock()
-	before := s.state
+	stateBefore := s.state
 	s.state = SerfShutdown
 	s.stateMu.Unlock()
-	if before == SerfShutdown {
+	if stateBefore == SerfShutdown {
 		return nil
 	}
-	if before != SerfLeft {
+	if stateBefore != SerfLeft {
 		s.log.Print("[WARN] serf: Shutdown without a Leave")
 	}
 	err := s.memberlist().Shutdown()
-	s.order.Lock()
+	s.agentMu.Lock()
 	hasFailed := s.isEnded
 	s.isEnded = true
 	for key, response := range s.openQueries {
 		response.Close()
-		// (the timer would keep the node in memory)
-		response.expiry.Stop()
+		// (a running timer would keep the node in memory)
+		response.expiryTimer.Stop()
 		delete(s.openQueries, key)
 	}
 	s.coalescer.flush()
-	s.order.Unlock()
-	s.stop()
-	s.routines.Wait()
-	if undelivered := <-s.undelivered; undelivered > 0 && s.open != nil {
+	s.agentMu.Unlock()
+	s.cancel()
+	s.goroutines.Wait()
+	if undelivered := <-s.undelivered; undelivered > 0 && s.openEvents != nil {
 		s.log.Printf("[INFO] serf: %d events were handed out but never received from EventCh: Unfinished has them in the next life", undelivered)
 	} else if undelivered > 0 {
 		s.log.Printf("[WARN] serf: %d events were handed out but never received from EventCh", undelivered)
@@ -400,19 +403,21 @@ func (s *Serf) Shutdown() error {
 		err = closeErr
 	}
 	if reason := s.Fault(); reason != nil {
-		// (the last line of the log has it too, since a program that does not call Fault may exit with status 0)
+		// (the last line of the log also has the reason, since a program that does not call Fault may exit with status
+		// 0)
 		s.log.Printf("[ERR] serf: the node has ended: %v", reason)
 	}
-	close(s.shutdown)
+	close(s.shutdownCh)
 	return err
 }
 
-// closeFile writes what waits for the file and closes the file. If the file has failed already, errors are not reported again.
+// closeFile writes the lines that wait for the file, and closes the file. If the file has failed already, closeFile
+// reports no further error.
 func (s *Serf) closeFile(hasFailed bool) (err error) {
 	if !hasFailed {
 		err = s.finishSnapshot()
 	}
-	s.open.close()
+	s.openEvents.close()
 	if closeErr := s.agent.Close(); err == nil && !hasFailed {
 		err = closeErr
 	}
@@ -422,19 +427,19 @@ func (s *Serf) closeFile(hasFailed bool) (err error) {
 	return err
 }
 
-// ShutdownCh is closed when the node has ended, after all events that were handed out.
-func (s *Serf) ShutdownCh() <-chan struct{} { return s.shutdown }
+// ShutdownCh returns a channel that is closed when the node has ended, after the last event was delivered.
+func (s *Serf) ShutdownCh() <-chan struct{} { return s.shutdownCh }
 
 // memberlist returns memberlist's node.
-func (s *Serf) memberlist() *memberlist.Memberlist { return s.list.Load() }
+func (s *Serf) memberlist() *memberlist.Memberlist { return s.memberlistNode.Load() }
 
 // Memberlist returns memberlist's node.
 func (s *Serf) Memberlist() *memberlist.Memberlist { return s.memberlist() }
 
 // Members returns all members, whatever their status, sorted by name. Their tags are shared with the node and must not be changed.
-func (s *Serf) Members() []Member { return s.members.all() }
+func (s *Serf) Members() []Member { return s.members.sorted() }
 
-// LocalMember returns this node, even after a leave, when it is no longer among the members.
+// LocalMember returns this node as a member, even if it has left and is no longer among the members.
 func (s *Serf) LocalMember() Member { return s.members.ownMember() }
 
 // NumNodes returns the number of members, whatever their status.
@@ -446,7 +451,7 @@ func (s *Serf) ProtocolVersion() uint8 { return s.config.ProtocolVersion }
 // EncryptionEnabled reports whether gossip is encrypted.
 func (s *Serf) EncryptionEnabled() bool { return s.keys != nil }
 
-// DefaultQueryTimeout returns the timeout of a query for which none is given. It grows with the number of members.
+// DefaultQueryTimeout returns the timeout of a query whose caller sets none. It grows with the number of members.
 func (s *Serf) DefaultQueryTimeout() time.Duration {
 	steps := math.Ceil(math.Log10(float64(s.members.size() + 1)))
 	return s.config.MemberlistConfig.GossipInterval * time.Duration(s.config.QueryTimeoutMult) * time.Duration(steps)

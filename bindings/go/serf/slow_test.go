@@ -83,7 +83,7 @@ func TestDroppedPackets(t *testing.T) {
 	}
 }
 
-// A firing follows the states that were received before it.
+// A node merges the states that it has received before it fires an event.
 func TestFiringFollowsEarlierStates(t *testing.T) {
 	a := startNode(t, "a", "", withAgent(&failingAgent{}))
 	for i := 0; i < 500; i++ {
@@ -137,7 +137,7 @@ func TestReaderThatCallsBack(t *testing.T) {
 	var a *testNode
 	var response *QueryResponse
 	isMade := make(chan struct{})
-	reads := func(e Event) {
+	handleEvent := func(e Event) {
 		<-isMade
 		var err error
 		switch e := e.(type) {
@@ -162,13 +162,13 @@ func TestReaderThatCallsBack(t *testing.T) {
 			// (events that nobody receives meanwhile don't delay the end)
 			check(t, a.UserEvent("last", nil, false))
 			check(t, a.Shutdown())
-			if response.expiry.Stop() {
+			if response.expiryTimer.Stop() {
 				t.Error("a timer keeps the node in memory")
 			}
 			close(done)
 		}
 	}
-	a = startNode(t, "a", "", withOnEvent(reads))
+	a = startNode(t, "a", "", withOnEvent(handleEvent))
 	close(isMade)
 	must(t, a.UserEvent("first", nil, false))
 	promptly(t, "what the reader does", func() { <-done })
@@ -180,6 +180,7 @@ type recordingAgent struct {
 	recorded testNode
 }
 
+// record records an event or a query that the agent hands out.
 func (n *recordingAgent) record(event *serfagent.Event, query *serfagent.PendingQuery) {
 	if event != nil {
 		n.recorded.received = append(n.recorded.received, UserEvent{LTime: LamportTime(event.Time), Name: string(event.Name), Payload: event.Payload})
@@ -238,12 +239,12 @@ func (n *testNode) handedOut() (all []string) {
 	return all
 }
 
-// Goroutines fire events and queries during a flood of whole and truncated packets and of states: everything is delivered in the agent's
-// order, and once.
+// While goroutines fire events and queries during a flood of whole packets, truncated packets and states, everything is
+// delivered once, in the agent's order.
 func TestEventsKeepAgentsOrder(t *testing.T) {
 	agent := &recordingAgent{}
 	a := startNode(t, "a", t.TempDir(), func(o *nodeOptions) {
-		o.Wrap = func(proved Agent, _ serfagent.Settings) (Agent, error) {
+		o.Wrap = func(proved Agent, _ Opening) (Agent, error) {
 			agent.Agent = proved
 			return agent, nil
 		}

@@ -14,7 +14,7 @@ import (
 // withFrequentChecks makes the node check its file every millisecond.
 func withFrequentChecks(o *nodeOptions) { o.snapshotCheckInterval = time.Millisecond }
 
-// copyFile copies a text as `cp` does, into the file that has the name.
+// copyFile copies a file as `cp` does: it writes into the existing file with the target's name.
 func copyFile(t *testing.T, from, to string) {
 	t.Helper()
 	writeFile(t, to, readFile(t, from))
@@ -32,7 +32,7 @@ func TestFileChangedFromOutside(t *testing.T) {
 			return os.Rename(filepath.Dir(path), filepath.Dir(path)+".1")
 		}, "isn't there any more"},
 		"copytruncate": {func(path string) error { copyFile(t, path, path+".1"); return os.Truncate(path, 0) }, "bytes, and had"},
-		// (with its filler it is as long as the file is now)
+		// (including its filler, the older copy is as long as the present file)
 		"an older copy": {func(path string) error { copyFile(t, path+".old", path); return nil }, "bytes, and had"},
 		"a line after its end": {func(path string) error {
 			writeFile(t, path, readFile(t, path)+"# a note\n")
@@ -76,8 +76,8 @@ func TestFileChangedFromOutside(t *testing.T) {
 
 // checkedSize returns the size of the file at the last check.
 func (n *testNode) checkedSize() int64 {
-	n.order.Lock()
-	defer n.order.Unlock()
+	n.agentMu.Lock()
+	defer n.agentMu.Unlock()
 	return n.snapshot.checkedSize
 }
 
@@ -94,7 +94,8 @@ func fileSize(t *testing.T, path string) int64 {
 	return info.Size()
 }
 
-// The node's own changes of the file do not count: it appends, compacts, ends and starts again, also through a symbolic link.
+// The node does not report its own changes of the file: when it appends, compacts, ends and starts again. This also
+// holds if the path is a symbolic link.
 func TestOwnChangesOfFile(t *testing.T) {
 	folder := t.TempDir()
 	writeFile(t, filepath.Join(folder, "real"), "")
@@ -109,7 +110,7 @@ func TestOwnChangesOfFile(t *testing.T) {
 			if i%3 > 0 {
 				continue
 			}
-			must(t, a.inOrder(func() error { return a.snapshot.compact(a.members.aliveLines(), a.compactLibrary) }))
+			must(t, a.useAgent(func() error { return a.snapshot.compact(a.members.aliveLines(), a.compactLibrary) }))
 		}
 		time.Sleep(20 * time.Millisecond)
 		must(t, a.Fault())
@@ -117,7 +118,7 @@ func TestOwnChangesOfFile(t *testing.T) {
 	}
 }
 
-// Shutdown finds a removed file too, if it comes before the next check.
+// If the file was removed since the last check, Shutdown finds that too.
 func TestFileRemovedBeforeShutdown(t *testing.T) {
 	folder := t.TempDir()
 	a := startNode(t, "a", folder)

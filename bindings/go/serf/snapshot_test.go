@@ -12,15 +12,16 @@ import (
 	"kitchenrue.example/serfagent"
 )
 
+// writeFile replaces the content of a file, and records that the test did so.
 func writeFile(t *testing.T, path, text string) {
 	t.Helper()
 	must(t, os.WriteFile(path, []byte(text), 0o600))
-	noteLife(t, "changed", path)
+	recordChange(t, "changed", path)
 }
 
-// noteLife notes for tests/library/snapshot_lives.py what a test itself did with a file: it wrote the file ("changed"), or will put it back to
-// what it has now ("killed").
-func noteLife(t *testing.T, what, path string) {
+// recordChange records for tests/library/snapshot_lives.py that a test itself changes a file. "changed" means that the test
+// has written the file, and "killed" that the test will later restore the file's present content.
+func recordChange(t *testing.T, what, path string) {
 	t.Helper()
 	folder := os.Getenv("KITCHENRUE_LIVES")
 	if folder == "" {
@@ -43,7 +44,7 @@ func readFile(t *testing.T, path string) string {
 	return string(data)
 }
 
-// readText returns what a file has in front of its filler.
+// readText returns the text of a file without its filler.
 func readText(t *testing.T, path string) string {
 	t.Helper()
 	text := readFile(t, path)
@@ -105,21 +106,21 @@ func TestCompaction(t *testing.T) {
 	defer f.close()
 	lines := []string{"alive: a 1:1\n", "alive: b 2:2\n"}
 	for !f.shouldCompact(lines) {
-		must(t, f.append("alive: b 2:2\n", "not-alive: b\n"))
+		must(t, f.appendMemberLines("alive: b 2:2\n", "not-alive: b\n"))
 	}
 	if size := len(readFile(t, path)); size < snapshotLimit || size > snapshotLimit+100 {
 		t.Error(size)
 	}
-	// the library replaces the file under its name
-	library := func() error {
+	// the function library replaces the file under the same name, as the proved library does
+	replaceFile := func() error {
 		if text := readFile(t, path+".members"); text != strings.Join(lines, "") {
 			t.Errorf("the file of the members has %q", text)
 		}
 		writeFile(t, path+".new", "event-clock: 3\n")
 		return os.Rename(path+".new", path)
 	}
-	must(t, f.compact(lines, library))
-	must(t, f.append("not-alive: b\n"))
+	must(t, f.compact(lines, replaceFile))
+	must(t, f.appendMemberLines("not-alive: b\n"))
 	if text := readFile(t, path); text != "event-clock: 3\nalive: a 1:1\nalive: b 2:2\nnot-alive: b\n" {
 		t.Errorf("%q", text)
 	}
@@ -128,8 +129,8 @@ func TestCompaction(t *testing.T) {
 	}
 }
 
-// The library's part of the file is taken to be as large as at the last replacement, so a file with kept events isn't replaced without
-// need.
+// shouldCompact assumes that the library's lines are as long as after the last replacement, so the node doesn't replace
+// a file with kept events needlessly.
 func TestCompactionWithKeptEvents(t *testing.T) {
 	path := filepath.Join(t.TempDir(), "file")
 	kept := "event-clock: 03\n" + strings.Repeat("#event 3 61 62\n", snapshotLimit/15)
@@ -141,17 +142,17 @@ func TestCompactionWithKeptEvents(t *testing.T) {
 	if !f.marksOldEvents || !f.shouldCompact(lines) {
 		t.Error("the file does not mark old events, or needs no compaction")
 	}
-	library := func() error {
+	replaceFile := func() error {
 		writeFile(t, path+".new", kept)
 		return os.Rename(path+".new", path)
 	}
-	must(t, f.compact(lines, library))
+	must(t, f.compact(lines, replaceFile))
 	size, left := len(kept)+len(lines[0]), len(kept)+len(lines[0])
 	for ; size < 2*left; size += len(lines[0]) {
 		if f.shouldCompact(lines) {
 			t.Fatalf("%d bytes, of which a compaction leaves %d", size, left)
 		}
-		must(t, f.append(lines...))
+		must(t, f.appendMemberLines(lines...))
 	}
 	if !f.shouldCompact(lines) {
 		t.Errorf("%d bytes, of which a compaction leaves %d", size, left)
@@ -169,7 +170,7 @@ func TestCrashesDuringCompaction(t *testing.T) {
 		path := filepath.Join(t.TempDir(), "file")
 		writeFile(t, path, left.file)
 		writeFile(t, path+".members", left.members)
-		// (the library ends a torn line when it opens the file)
+		// (when the library opens the file, it ends a partly written line with a newline)
 		if !strings.HasSuffix(left.file, "\n") {
 			writeFile(t, path, left.file+"\n")
 		}
@@ -204,7 +205,7 @@ func TestSnapshotErrors(t *testing.T) {
 	must(t, err)
 	defer f.close()
 	bad := []string{"alive: a\x00b 1:1\n", "alive: a 1:1\r\n", "alive: a\nevent-clock: 9 1:1\n", "alive: a 1:1", "", "\n\n"}
-	if err := f.append(bad...); err != nil || readFile(t, path) != "" {
+	if err := f.appendMemberLines(bad...); err != nil || readFile(t, path) != "" {
 		t.Errorf("%q %v", readFile(t, path), err)
 	}
 	failed := errors.New("failed")
@@ -245,24 +246,25 @@ func TestMembersFileStaysUntilSync(t *testing.T) {
 	}
 }
 
-// A file that the last life still has locked for a moment is waited for. One that another node has is waited for only up to the timeout.
+// If the last life keeps the file locked for a moment, the node waits for it. If another node has locked the file, the
+// node stops waiting after the timeout.
 func TestLockedFileIsAwaited(t *testing.T) {
 	path := filepath.Join(t.TempDir(), "file")
 	for tries := 0; tries < 5; tries++ {
 		store, err := serfagent.OpenStore(path)
 		must(t, err)
-		if _, err := openWhenUnlocked("a", path, serfagent.DefaultSettings()); !errors.Is(err, serfagent.ErrLocked) {
+		if _, _, err := openWhenUnlocked("a", path, serfagent.DefaultSettings()); !errors.Is(err, serfagent.ErrLocked) {
 			t.Fatal(err)
 		}
 		closed := make(chan error)
 		time.AfterFunc(lockTimeout/10, func() { closed <- store.Close() })
-		agent, err := openWhenUnlocked("a", path, serfagent.DefaultSettings())
+		agent, _, err := openWhenUnlocked("a", path, serfagent.DefaultSettings())
 		<-closed
 		if err == nil {
 			_ = agent.Close()
 			return
 		}
-		// (a busy machine may have closed it too late)
+		// (on a busy machine, the lock may have been released too late)
 		t.Log(err)
 	}
 	t.Error("the lock was released in time, but the file was not opened")

@@ -12,9 +12,9 @@ import (
 	"kitchenrue.example/serfagent"
 )
 
-// A burst, and then a merge, that need more memory than there is: what entered is handed out, what did not is logged, and all of it arrives
-// when it is sent again. The test is for a library whose first calls run out of memory (tests/library/embed/starved.py), after as many
-// requests as the environment says.
+// A burst, and then a merge, need more memory than there is. The events that the agent accepted are handed out, the
+// others are logged, and all of them arrive when they are sent again. The test needs a library whose first calls run
+// out of memory (tests/library/embed/starved.py), after a number of memory requests that an environment variable sets.
 func TestABurstOfMoreThanMemoryHas(t *testing.T) {
 	if os.Getenv("SERF_AGENT_GRANTED") == "" {
 		t.Skip("needs a library that runs out of memory")
@@ -41,7 +41,7 @@ func TestABurstOfMoreThanMemoryHas(t *testing.T) {
 		}
 	}
 	for i := 0; i < 2; i++ {
-		err := a.inOrder(func() error { return a.mergeState(queuedMessage{data: state}) })
+		err := a.useAgent(func() error { return a.mergeState(queuedMessage{data: state}) })
 		if err != nil && err != serfagent.OutOfMemory {
 			t.Fatal(err)
 		}
@@ -58,7 +58,7 @@ func TestABurstOfMoreThanMemoryHas(t *testing.T) {
 	if found := names(); !reflect.DeepEqual(found, want) || a.Fault() != nil {
 		t.Errorf("%v was delivered: %v", found, a.Fault())
 	}
-	// (if memory ran out only while outcomes were read, nothing is lost and nothing logged)
+	// (if memory ran out only while the node read outcomes, nothing is lost and nothing is logged)
 	warnings := strings.Count(logs.String(), " processed: "+serfagent.OutOfMemory.Error())
 	if warnings > 2 {
 		t.Error(logs.String())

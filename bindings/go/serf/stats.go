@@ -8,12 +8,13 @@ import (
 	"kitchenrue.example/serfagent"
 )
 
-// refusalName returns the name in Stats of what the guard refused for a reason.
+// refusalName returns the name under which Stats has the number of the guard's refusals for a reason.
 func refusalName(reason guard.Reason) string {
 	return "refused_" + strings.ReplaceAll(reason.String(), " ", "_")
 }
 
-// RefusalNames returns the names that Stats may have for what the guard refused. Stats leaves out the reasons for which it refused nothing.
+// RefusalNames returns all names under which Stats may have the guard's refusals. Stats leaves out the reasons for
+// which the guard refused nothing.
 func RefusalNames() (names []string) {
 	for _, reason := range guard.Reasons() {
 		names = append(names, refusalName(reason))
@@ -34,40 +35,42 @@ func (s *Serf) countIgnored(received *serfagent.Received) {
 	}
 	for i, reason := range ignoreReasons {
 		if received.Reason == reason.reason {
-			s.ignored[i].Add(1)
+			s.ignoredCounts[i].Add(1)
 		}
 	}
 }
 
-// Stats returns what an operator needs to know about the node, under Serf's names, and in addition: dropped (packets, states and broadcasts
-// for which there was no room, or that had a far time), dropped_far (those of them with a far time), dropped_kept (those of them for whose
-// events KeepEventsSize left no room), events_waiting (for EventCh), events_missing (times of the window of which the node has seen no
-// event, although it has seen a later one), events_open (handed out and not done, if TrackHandlers is set), for each reason refused_REASON, how much the guard refused for it, and for each reason
-// ignored_REASON, how many events and queries were ignored although they may never have been handed out.
+// Stats returns what an operator needs to know about the node, under Serf's names. In addition to Serf's, it has these
+// numbers. dropped counts the packets, states and broadcasts that the node dropped because there was no room or because
+// they had a far time; dropped_far counts those with a far time, and dropped_kept those for whose events KeepEventsSize
+// left no room. events_waiting is how many events wait for EventCh. events_missing is for how many times of the window
+// the node has seen no event although it has seen a later one. events_open is how many events were handed out and are
+// not done; it is present if TrackHandlers is set. For each reason, refused_REASON counts the guard's refusals, and
+// ignored_REASON counts the events and queries that the node ignored although it may never have handed them out.
 func (s *Serf) Stats() map[string]string {
-	number := func(value interface{}) string { return fmt.Sprint(value) }
+	decimal := func(value interface{}) string { return fmt.Sprint(value) }
 	stats := map[string]string{
-		"members": number(s.members.size()), "failed": number(s.members.count(StatusFailed)), "left": number(s.members.count(StatusLeft)),
-		"health_score": number(s.memberlist().GetHealthScore()), "encrypted": number(s.EncryptionEnabled()),
-		"intent_queue": number(s.intents.NumQueued()), "event_queue": number(s.events.NumQueued()),
-		"query_queue":  number(s.queries.NumQueued()),
-		"dropped":      number(s.dropped.Load() + s.droppedFar.Load() + s.droppedKept.Load()),
-		"dropped_kept": number(s.droppedKept.Load()), "dropped_far": number(s.droppedFar.Load()), "events_waiting": number(s.pipe.length()),
-		"events_missing": number(s.eventsMissing()), "events_open": number(s.open.count()),
+		"members": decimal(s.members.size()), "failed": decimal(s.members.count(StatusFailed)), "left": decimal(s.members.count(StatusLeft)),
+		"health_score": decimal(s.memberlist().GetHealthScore()), "encrypted": decimal(s.EncryptionEnabled()),
+		"intent_queue": decimal(s.intents.NumQueued()), "event_queue": decimal(s.events.NumQueued()),
+		"query_queue":  decimal(s.queries.NumQueued()),
+		"dropped":      decimal(s.dropped.Load() + s.droppedFar.Load() + s.droppedKept.Load()),
+		"dropped_kept": decimal(s.droppedKept.Load()), "dropped_far": decimal(s.droppedFar.Load()), "events_waiting": decimal(s.pipe.length()),
+		"events_missing": decimal(s.eventsMissing()), "events_open": decimal(s.openEvents.count()),
 	}
 	if s.guard != nil {
 		for reason, count := range s.guard.Drops() {
-			stats[refusalName(reason)] = number(count)
+			stats[refusalName(reason)] = decimal(count)
 		}
 	}
 	for i, reason := range ignoreReasons {
-		stats["ignored_"+reason.name] = number(s.ignored[i].Load())
+		stats["ignored_"+reason.name] = decimal(s.ignoredCounts[i].Load())
 	}
 	if clocks, err := s.agent.Clocks(); err == nil {
-		stats["member_time"], stats["event_time"], stats["query_time"] = number(clocks.Member), number(clocks.Event), number(clocks.Query)
+		stats["member_time"], stats["event_time"], stats["query_time"] = decimal(clocks.Member), decimal(clocks.Event), decimal(clocks.Query)
 	}
 	if s.coordinates != nil {
-		stats["coordinate_resets"] = number(s.coordinates.client.Stats().Resets)
+		stats["coordinate_resets"] = decimal(s.coordinates.client.Stats().Resets)
 	}
 	return stats
 }

@@ -5,12 +5,12 @@ import "fmt"
 // maxTagsLength is the maximum number of bytes of a node's encoded tags.
 const maxTagsLength = 512
 
-// errTagsTooLong is returned for tags that memberlist can't send: it would panic.
+// errTagsTooLong is returned for tags that are too long for memberlist, which would panic if it had to send them.
 //
 //lint:ignore ST1005 Serf's own message
 var errTagsTooLong = fmt.Errorf("Encoded length of tags exceeds limit of %d bytes", maxTagsLength)
 
-// tagsMagic is the first byte of encoded tags. Old nodes send only their role, without it.
+// tagsMagic is the first byte of encoded tags. Old nodes send only their role, without this byte.
 const tagsMagic = 0xff
 
 // encodeTags encodes a node's tags.

@@ -2,10 +2,10 @@ package serf
 
 import "kitchenrue.example/guard/msgpack"
 
-// clockTimes are the largest times of each clock in a packet or a state; 0 for a clock without times.
+// clockTimes has, for each clock, the largest time in a packet or a state, or 0 if it has no time of that clock.
 type clockTimes struct{ member, event, query uint64 }
 
-// max returns the largest of them.
+// max returns the largest of the three times.
 func (t clockTimes) max() uint64 {
 	max := t.member
 	for _, time := range []uint64{t.event, t.query} {
@@ -16,8 +16,9 @@ func (t clockTimes) max() uint64 {
 	return max
 }
 
-// readTimes reads the times of an intent, an event, a query or a state. It reads nothing from other messages, since they move no clock. It
-// reads every packet that the library reads, with the same times. An error means that the library refuses the packet.
+// readTimes reads the times of an intent, an event, a query or a state. For other messages it returns no times, since
+// they move no clock. For every packet that the library accepts, it reads the same times as the library. If it returns
+// an error, the library refuses the packet.
 func readTimes(packet []byte) (clockTimes, error) {
 	var found clockTimes
 	if len(packet) == 0 {
@@ -41,7 +42,7 @@ func readTimes(packet []byte) (clockTimes, error) {
 
 // readTimeInto reads the time of a message's map, and raises max to it.
 func (d *decoder) readTimeInto(max *uint64) {
-	d.eachField(func(key string) bool {
+	d.readMap(func(key string) bool {
 		if key == "LTime" {
 			d.readLaterTime(max)
 		}
@@ -51,30 +52,30 @@ func (d *decoder) readTimeInto(max *uint64) {
 
 // readLaterTime reads a time, and raises max to it.
 func (d *decoder) readLaterTime(max *uint64) {
-	if time := d.unsigned(); time > *max {
+	if time := d.readUnsigned(); time > *max {
 		*max = time
 	}
 }
 
 // readStateTimes reads the times of a state's map.
-func (d *decoder) readStateTimes(found *clockTimes) {
-	d.eachField(func(key string) bool {
+func (d *decoder) readStateTimes(times *clockTimes) {
+	d.readMap(func(key string) bool {
 		switch key {
 		case "LTime":
-			d.readLaterTime(&found.member)
+			d.readLaterTime(&times.member)
 		case "StatusLTimes":
-			for pairs := d.mapHeader(); pairs > 0 && d.Err == nil; pairs-- {
-				d.raw()
-				d.readLaterTime(&found.member)
+			for pairs := d.readMapHeader(); pairs > 0 && d.Err == nil; pairs-- {
+				d.readText()
+				d.readLaterTime(&times.member)
 			}
 		case "EventLTime":
-			d.readLaterTime(&found.event)
+			d.readLaterTime(&times.event)
 		case "Events":
-			for slots := d.arrayHeader(); slots > 0 && d.Err == nil; slots-- {
-				d.readTimeInto(&found.event)
+			for slots := d.readArrayHeader(); slots > 0 && d.Err == nil; slots-- {
+				d.readTimeInto(&times.event)
 			}
 		case "QueryLTime":
-			d.readLaterTime(&found.query)
+			d.readLaterTime(&times.query)
 		default:
 			return false
 		}

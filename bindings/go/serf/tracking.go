@@ -9,8 +9,9 @@ import (
 // maxTrackedFile is the maximum size in bytes of a file that is read for open events.
 const maxTrackedFile = 4 << 30
 
-// trackHandlers restores the open events of the file if TrackHandlers is set, and begins to track if the file does not yet. Without the
-// setting it makes the file forget what was open. It is called before anything is handed out.
+// trackHandlers is called before anything is handed out. If TrackHandlers is set, it restores the open events of the
+// file, and starts tracking if the file does not track handlers yet. If TrackHandlers is not set, it removes the open
+// events from the file.
 func (s *Serf) trackHandlers() error {
 	if s.snapshot == nil {
 		return nil
@@ -29,15 +30,16 @@ func (s *Serf) trackHandlers() error {
 		if err != nil {
 			return err
 		}
-		says := readHandlerText(text)
-		s.open = newOpenEvents(s.config.MaxOpenEvents, s.pipe.holdBack)
-		s.open.restore(says, events, time)
+		handlers := readHandlerText(text)
+		s.openEvents = newOpenEvents(s.config.MaxOpenEvents, s.pipe.holdBack)
+		s.openEvents.restore(handlers, events, time)
 		switch {
 		case !isTracked:
-			return s.beginTracking(time)
-		case !says.hasRanAfter:
-			// (the program of the last life did not say how handlers ended. If this line is lost, the next life writes it)
-			return s.snapshot.write([]byte(ranAfterLine(LamportTime(time))))
+			return s.startTracking(time)
+		case !handlers.hasCompleteAfter:
+			// (the program of the last life did not record how handlers ended. If this line is lost, the next life
+			// writes it again)
+			return s.snapshot.appendLines([]byte(completeAfterLine(LamportTime(time))))
 		}
 		return nil
 	case isTracked:
@@ -46,13 +48,14 @@ func (s *Serf) trackHandlers() error {
 	return nil
 }
 
-// beginTracking appends the line from which on the file says what became of handlers.
-func (s *Serf) beginTracking(time uint64) error {
+// startTracking appends the line that starts tracking: from that line on, the file records which handlers have begun
+// and ended.
+func (s *Serf) startTracking(time uint64) error {
 	line, err := serfagent.DoneUpToLine(time)
 	if err != nil {
 		return err
 	}
-	if err := s.snapshot.write(append(line, ranAfterLine(LamportTime(time))...)); err != nil {
+	if err := s.snapshot.appendLines(append(line, completeAfterLine(LamportTime(time))...)); err != nil {
 		return err
 	}
 	if err := s.snapshot.sync(); err != nil {
@@ -61,20 +64,20 @@ func (s *Serf) beginTracking(time uint64) error {
 	return s.snapshot.recordEnd()
 }
 
-// forgetOpenEvents compacts the file to one that says nothing of handlers. If it stayed tracked, the events that this life handles would look
-// open to a later life.
+// forgetOpenEvents compacts the file to one without lines about handlers. Otherwise, the events that this life handles
+// would look open to a later life.
 func (s *Serf) forgetOpenEvents(count int) error {
 	if count > 0 {
 		s.log.Printf("[WARN] serf: %d events that an earlier life was handed and that are not done are forgotten, since TrackHandlers is off", count)
 	}
-	lines := make([]string, 0, len(s.previous))
-	for i := len(s.previous) - 1; i >= 0; i-- {
-		lines = append(lines, fmt.Sprintf("alive: %s %s\n", s.previous[i].Name, s.previous[i].Addr))
+	lines := make([]string, 0, len(s.previousNodes))
+	for i := len(s.previousNodes) - 1; i >= 0; i-- {
+		lines = append(lines, fmt.Sprintf("alive: %s %s\n", s.previousNodes[i].Name, s.previousNodes[i].Addr))
 	}
 	return s.snapshot.compact(lines, func() error { return s.agent.CompactWith(nil) })
 }
 
-// lastEventTime returns a time that no event that was handed out exceeds.
+// lastEventTime returns an upper bound of the times of all events that were handed out.
 func (s *Serf) lastEventTime() (uint64, error) {
 	clocks, err := s.agent.Clocks()
 	if err != nil || clocks.Event == 0 {
@@ -83,14 +86,14 @@ func (s *Serf) lastEventTime() (uint64, error) {
 	return clocks.Event - 1, nil
 }
 
-// compactLibrary makes the library replace the file by its own lines and those of the open events. order is held, so nothing is handed out
-// meanwhile.
+// compactLibrary makes the library replace the file by one with the library's own lines and those of the open events.
+// The caller holds agentMu, so nothing is handed out in the meantime.
 func (s *Serf) compactLibrary() error {
 	time, err := s.lastEventTime()
 	if err != nil {
 		return err
 	}
-	lines, err := s.open.compacted(time)
+	lines, err := s.openEvents.compactedLines(time)
 	if err != nil {
 		return err
 	}

@@ -10,15 +10,16 @@ import (
 	"kitchenrue.example/guard"
 )
 
-// DefaultMaxMembers is the maximum number of known members if Config.Guard doesn't set it. (A program that uses the guard without this
-// package has the lower default of guard.Defaults.)
+// DefaultMaxMembers is the maximum number of known members if Config.Guard doesn't set it. (guard.Defaults has a lower
+// number, for programs that use the guard without this package.)
 const DefaultMaxMembers = 4096
 
-// installGuard gives memberlist a transport that checks each packet and stream before memberlist reads it. If the configuration has a
-// transport, the guard is around that one; if that is a guard already, the node uses it as it is.
+// installGuard sets a transport for memberlist that checks each packet and stream before memberlist reads it. If the
+// configuration has a transport, the guard wraps that one. If that transport is a guard already, the node uses it
+// unchanged.
 func (s *Serf) installGuard(conf *memberlist.Config) error {
-	own := conf.Transport
-	if guarded, ok := own.(*guard.Transport); ok {
+	configured := conf.Transport
+	if guarded, ok := configured.(*guard.Transport); ok {
 		s.guard = guarded
 		return nil
 	}
@@ -33,12 +34,12 @@ func (s *Serf) installGuard(conf *memberlist.Config) error {
 	settings.MakeRoom = s.members.makeRoom
 	settings.Delegates = guard.VersionRange{Min: ProtocolVersionMin, Max: ProtocolVersionMax}
 	var err error
-	if own != nil {
-		// (a transport that isn't over UDP may have longer packets)
+	if configured != nil {
+		// (a transport that doesn't use UDP may have longer packets)
 		if settings.PacketBytes == 0 && conf.UDPBufferSize > guard.Defaults().PacketBytes {
 			settings.PacketBytes = conf.UDPBufferSize
 		}
-		s.guard, err = guard.Around(own, conf, settings)
+		s.guard, err = guard.Around(configured, conf, settings)
 	} else {
 		s.guard, err = guard.New(conf, settings)
 	}
@@ -49,7 +50,8 @@ func (s *Serf) installGuard(conf *memberlist.Config) error {
 	return err
 }
 
-// guardRefusals returns how many packets, streams and parts of them the guard refused, and the counts by reason as a text.
+// guardRefusals returns how many packets, streams and parts of them the guard refused. It also returns the counts for
+// each reason, as a text.
 func (s *Serf) guardRefusals() (count uint64, reasons string) {
 	if s.guard == nil {
 		return 0, ""

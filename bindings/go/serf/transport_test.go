@@ -59,7 +59,8 @@ func newOwnTransport(t *testing.T) *ownTransport {
 	return &ownTransport{NetTransport: inner}
 }
 
-// The guard is around a program's own transport too. A packet longer than usual passes if the configuration allows it.
+// The guard also wraps a program's own transport. A packet that is longer than usual passes if the configuration allows
+// it.
 func TestOwnTransportIsGuarded(t *testing.T) {
 	own := newOwnTransport(t)
 	a := startNode(t, "a", "", func(o *nodeOptions) {
@@ -89,7 +90,7 @@ func TestOwnTransportIsGuarded(t *testing.T) {
 	}
 }
 
-// A transport that is a guard already is used as it is, and its refusals are counted.
+// If a program's own transport is already a guard, the node uses it unchanged, and its refusals are counted.
 func TestOwnGuard(t *testing.T) {
 	config := loopbackConfig("a")
 	guarded, err := guard.New(config.MemberlistConfig, guard.Settings{UserBytes: 7})
@@ -170,7 +171,8 @@ func TestWarningWithoutKey(t *testing.T) {
 	}
 }
 
-// A join of a node whose table of members is full fails, and the error says why. A member that failed makes room.
+// Joining a node whose table of members is full fails, and the error says why. If one of its members has failed, that
+// member makes room.
 func TestJoinOfAFullNode(t *testing.T) {
 	full := startNode(t, "full", "", func(o *nodeOptions) { o.Guard.Members = 2 })
 	second, third := startNode(t, "second", ""), startNode(t, "third", "")

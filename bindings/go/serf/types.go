@@ -1,6 +1,6 @@
 package serf
 
-// Types of messages: those that the proved library reads, and those that this package reads and writes.
+// These are the types of messages that the proved library, or this package, reads and writes.
 const (
 	leaveType            = 0
 	joinType             = 1

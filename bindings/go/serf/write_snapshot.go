@@ -6,8 +6,8 @@ import (
 	"github.com/armon/go-metrics"
 )
 
-// snapshotWriteInterval is the minimum time between two writes of member lines, and snapshotCheckInterval is how often the node checks how
-// long the file is and whether it was changed from outside.
+// snapshotWriteInterval is the minimum time between two writes of member lines. snapshotCheckInterval is how often the
+// node checks the length of the file, and whether another program has changed it.
 const (
 	snapshotWriteInterval = 500 * time.Millisecond
 	snapshotCheckInterval = 10 * time.Second
@@ -24,7 +24,7 @@ func (s *Serf) writeSnapshot() {
 		case <-s.memberLines.ready:
 		case <-ticker.C:
 		}
-		if err := s.inOrder(s.writeMemberLines); isFinal(err) {
+		if err := s.useAgent(s.writeMemberLines); isFinal(err) {
 			return
 		} else if err != nil {
 			s.log.Printf("[WARN] serf: writing the members to the snapshot failed and is tried again: %v", err)
@@ -38,7 +38,8 @@ func (s *Serf) writeSnapshot() {
 	}
 }
 
-// writeMemberLines saves the member clock, writes the lines that wait, and compacts the file if that is worthwhile. order is held.
+// writeMemberLines saves the member clock, writes the waiting lines, and compacts the file if that is worthwhile. The
+// caller holds agentMu.
 func (s *Serf) writeMemberLines() error {
 	s.grownBytes = 0
 	if s.snapshot != nil {
@@ -54,11 +55,12 @@ func (s *Serf) writeMemberLines() error {
 	if s.snapshot == nil {
 		return nil
 	}
-	if err := s.snapshot.append(lines...); err != nil {
-		// (after a line that was written in part, nothing may follow: the library's next line would continue it)
+	if err := s.snapshot.appendMemberLines(lines...); err != nil {
+		// (after a line that was only partly written, nothing may be appended, since the library's next line would
+		// continue it)
 		return err
 	}
-	if err := s.appendHandlerLines(s.open.waitingLines()); err != nil {
+	if err := s.appendHandlerLines(s.openEvents.waitingLines()); err != nil {
 		return err
 	}
 	alive := s.members.aliveLines()
@@ -73,10 +75,10 @@ func (s *Serf) writeMemberLines() error {
 	return err
 }
 
-// finishSnapshot writes what waits when the node ends.
+// finishSnapshot writes the lines that still wait when the node ends.
 func (s *Serf) finishSnapshot() error {
-	s.order.Lock()
-	defer s.order.Unlock()
+	s.agentMu.Lock()
+	defer s.agentMu.Unlock()
 	if err := s.writeMemberLines(); err != nil {
 		return err
 	}

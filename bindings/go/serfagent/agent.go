@@ -1,13 +1,14 @@
 // Package serfagent is the Go binding of the proved Serf agent. An Agent keeps its snapshot in a file.
 //
-// Each call flushes what it wrote to the disk before it returns, so nothing reaches a handler before its line is
-// durable. If the file fails, the agent is closed: open it again on the same file. Calls may come from any goroutine,
-// and run one at a time. Moments (now) are nanoseconds of one clock that never goes back.
+// Each call flushes the lines that it wrote before it returns, so no event reaches a handler before its line is on the
+// disk. If the file fails, the agent is closed: open it again on the same file. You may make calls from any goroutine;
+// they run one at a time. Moments (now) are nanoseconds of one clock that never goes back.
 //
-// The library is proved. This package is tested. It needs Linux on x86-64 or aarch64, and cgo. The header, and the
-// memory functions that the library calls, are in this folder, and a release has the libraries libserf_agent_c.a (for
-// x86-64) and libserf_agent_c_arm64.a there too. In a clone of the repository the package links the library for x86-64
-// that is made in crates/serf_agent_c/out. CGO_LDFLAGS=-L.. names another folder, which is searched first.
+// The library is proved. This package is tested. It needs Linux on x86-64 or aarch64, and cgo. This folder has the
+// header and the memory functions that the library calls. In a release, it also has the libraries: libserf_agent_c.a
+// for x86-64 and libserf_agent_c_arm64.a for aarch64. In a clone of the repository, the package links the library for
+// x86-64 that is built in crates/serf_agent_c/out. To make the linker search another folder first, set CGO_LDFLAGS=-L
+// followed by its path.
 package serfagent
 
 /*
@@ -31,24 +32,27 @@ type Agent struct {
 	mu     sync.Mutex
 	handle *C.struct_serf_agent // in C's memory, which Go neither moves nor copies
 	store  textStore
-	// Set if a call that failed may have left filters, or members, that the library would add to the next call.
+	// staleFilters and staleMembers are set if a failed call may have left filters, or members, that the library would
+	// add to the next call.
 	staleFilters, staleMembers bool
-	// The calls of bursts whose outcomes have not been read yet.
+	// unread has the calls of bursts whose outcomes have not been read yet.
 	unread []burstCall
-	// The index in its burst of the first unread call.
-	unreadPlace int
-	// The number of flushes and replacements of the file.
+	// unreadIndex is the index of the first unread call in its burst.
+	unreadIndex int
+	// flushes is the number of flushes and replacements of the file.
 	flushes atomic.Uint64
-	// A buffer for texts. Each text is copied out of it.
+	// buffer receives texts from the library. The package copies each text out of it.
 	buffer []byte
-	// The firings of a burst that C makes in one call, and what is pending for the file.
+	// batch has the firings of a burst that C makes in one call. pending has the bytes that the library wants to write
+	// to the file.
 	batch   firingBatch
 	pending C.struct_serf_agent_bytes
-	// The host's lines that follow the library's text when the file is replaced.
+	// appendix has the host's lines, which follow the library's text when the file is replaced.
 	appendix []byte
 }
 
-// Sizes in bytes of the part of the buffer for an event's name, and of the whole buffer.
+// nameBytes is the size in bytes of the part of the buffer for an event's name. bufferBytes is the size of the whole
+// buffer.
 const (
 	nameBytes   = 128
 	bufferBytes = 8192
@@ -56,6 +60,7 @@ const (
 
 var noBytes [1]byte
 
+// ptr returns the address of data for C, which needs one even if there are no bytes.
 func ptr(data []byte) *C.uint8_t {
 	if len(data) == 0 {
 		data = noBytes[:]
@@ -75,19 +80,27 @@ type textStore interface {
 	Close() error
 }
 
-// Open opens or creates the file at path, and opens an agent with this name on its text. If a setting is out of its
-// bounds, the error is a SettingError.
+// Open opens or creates the file at path, and opens an agent with this name on the file's text. If a setting is out of
+// its bounds, the error is a SettingError.
 func Open(name, path string, settings Settings) (*Agent, error) {
+	agent, _, err := OpenWithText(name, path, settings)
+	return agent, err
+}
+
+// OpenWithText is like Open, and also returns the text on which it opened the agent: the file's text, without filler. A
+// record of the agent's calls begins with this text.
+func OpenWithText(name, path string, settings Settings) (*Agent, []byte, error) {
 	store, err := OpenStore(path)
 	if err != nil {
-		return nil, err
+		return nil, nil, err
 	}
 	text, err := store.Read()
 	if err != nil {
 		store.Close()
-		return nil, err
+		return nil, nil, err
 	}
-	return open(name, store, text, settings)
+	agent, err := open(name, store, text, settings)
+	return agent, text, err
 }
 
 // memoryStore keeps nothing.
@@ -106,7 +119,7 @@ func OpenInMemory(name string, settings Settings) (*Agent, error) {
 	return open(name, memoryStore{}, nil, settings)
 }
 
-// open opens an agent on a text. The agent owns the store, and closes it if opening fails.
+// open opens an agent on a text. The agent owns the store. If open fails, it closes the store.
 func open(name string, store textStore, text []byte, settings Settings) (*Agent, error) {
 	agent := &Agent{store: store, buffer: make([]byte, bufferBytes), handle: (*C.struct_serf_agent)(C.calloc(1, C.sizeof_struct_serf_agent))}
 	runtime.SetFinalizer(agent, (*Agent).free)
@@ -147,8 +160,8 @@ func (a *Agent) free() {
 	C.free(unsafe.Pointer(a.handle))
 }
 
-// complete writes what a call left for the file, and flushes it, even if the call was refused. It returns the call's
-// error. If the file fails, it closes the agent and returns the file's error.
+// complete writes and flushes the bytes that a call left for the file, even if the library refused the call. It returns
+// the call's error. If the file fails, it closes the agent and returns the file's error.
 func (a *Agent) complete(code C.uint32_t) error {
 	data := a.buffer
 	if C.serf_agent_pending(a.handle, &a.pending, ptr(data), size(data)) != C.SERF_AGENT_OK || (a.pending.len == 0 && !bool(a.pending.replaces)) {
@@ -181,6 +194,7 @@ func (a *Agent) complete(code C.uint32_t) error {
 // Flushes returns how often the file was flushed or replaced since the agent was opened. It doesn't wait for calls.
 func (a *Agent) Flushes() uint64 { return a.flushes.Load() }
 
+// result returns the result of the last call.
 func (a *Agent) result() (C.struct_serf_agent_result, error) {
 	var result C.struct_serf_agent_result
 	err := errorOf(C.serf_agent_result(a.handle, &result))
@@ -204,16 +218,16 @@ func (a *Agent) event(index int) (*Event, error) {
 	}
 }
 
-// packet returns the packet to send that the last call made, or, if isAck is set, this node's own ack. It returns nil
-// if there is none.
+// packet returns the packet that the last call made for sending. If isAck is true, it returns this node's own ack
+// instead. It returns nil if there is none.
 func (a *Agent) packet(isAck bool) ([]byte, error) {
 	var length C.size_t
-	for room := a.buffer; ; room = make([]byte, length) {
+	for buffer := a.buffer; ; buffer = make([]byte, length) {
 		var err error
 		if isAck {
-			err = errorOf(C.serf_agent_ack(a.handle, &length, ptr(room), size(room)))
+			err = errorOf(C.serf_agent_ack(a.handle, &length, ptr(buffer), size(buffer)))
 		} else {
-			err = errorOf(C.serf_agent_packet(a.handle, &length, ptr(room), size(room)))
+			err = errorOf(C.serf_agent_packet(a.handle, &length, ptr(buffer), size(buffer)))
 		}
 		if err == Nothing {
 			return nil, nil
@@ -221,15 +235,17 @@ func (a *Agent) packet(isAck bool) ([]byte, error) {
 		if err != nil {
 			return nil, err
 		}
-		if int(length) <= len(room) {
-			return append(make([]byte, 0, length), room[:length]...), nil
+		if int(length) <= len(buffer) {
+			return append(make([]byte, 0, length), buffer[:length]...), nil
 		}
 	}
 }
 
+// countedAnswer reads the ack or the response in a packet that the agent counted.
 func countedAnswer(packet []byte) (*Answer, error) {
 	var info C.struct_serf_agent_answer
 	var from, payload []byte
+	// The first call returns the lengths, and the second one the texts.
 	for i := 0; i < 2; i++ {
 		from, payload = make([]byte, info.from_len), make([]byte, info.payload_len)
 		if err := errorOf(C.serf_agent_answer(ptr(packet), size(packet), &info, ptr(from), size(from), ptr(payload), size(payload))); err != nil {
@@ -332,7 +348,7 @@ func (a *Agent) mergedEvents() ([]*Event, error) {
 	return events, nil
 }
 
-// checkForgotten returns an error if a call has not discarded the filters or members that were left for it. Every call
+// checkForgotten returns an error if a call has not discarded the leftover filters or members. Every call of this kind
 // discards them unless memory runs out.
 func checkForgotten(code C.uint32_t) error {
 	if code == C.SERF_AGENT_OUT_OF_MEMORY {
@@ -341,12 +357,12 @@ func checkForgotten(code C.uint32_t) error {
 	return nil
 }
 
-// Compact replaces the file's text by one line for each clock, and, if the settings keep events, the lines of what the
-// buffers hold.
+// Compact replaces the file's text by one line for each clock and, if the settings keep events, the lines of the events
+// and queries in the buffers.
 func (a *Agent) Compact() error { return a.CompactWith(nil) }
 
-// CompactWith is Compact that writes the host's own lines after those of the library, in the same replacement of the
-// file. Each of them ends with a newline, and the library skips it when it reads the file.
+// CompactWith is like Compact, and also writes the host's own lines after those of the library, in the same replacement
+// of the file. Each of these lines has to end with a newline. The library skips them when it reads the file.
 func (a *Agent) CompactWith(lines []byte) error {
 	a.mu.Lock()
 	defer a.mu.Unlock()

@@ -3,16 +3,17 @@ package serfagent
 /*
 #include "serf_agent.h"
 
-// A firing: the lengths of its texts, which follow those of the firing before it in one buffer. After it was read: its time,
-// and the length of its packet. Its texts, as they are handed out, and its packet then follow those of the firing before it.
+// A firing. Before the call, it has the lengths of its texts. One buffer has the texts of all firings, in order. After
+// the firing was read, it also has its time and the length of its packet, and the buffer has the texts as they are
+// handed out and the packets of all firings, in order.
 struct firing {
     uint64_t time;
     size_t name_len, payload_len, packet_len;
-    uint32_t answered;
+    uint32_t outcome_code;
     bool coalesce;
 };
 
-// How many firings were made or read, and the code of the call at which it stopped.
+// How many firings were made or read, and the code of the call that ended the loop.
 struct progress {
     size_t count;
     uint32_t code;
@@ -35,8 +36,8 @@ static struct progress read_all(struct serf_agent *handle, struct firing *firing
     for (size_t i = 0; i < count; i++) {
         struct firing *firing = &firings[i];
         struct serf_agent_event info;
-        uint32_t code = serf_agent_next(handle, &firing->answered);
-        if (code == SERF_AGENT_OK && firing->answered == SERF_AGENT_OK) {
+        uint32_t code = serf_agent_next(handle, &firing->outcome_code);
+        if (code == SERF_AGENT_OK && firing->outcome_code == SERF_AGENT_OK) {
             uint8_t *payload = texts + firing->name_len, *packet = payload + firing->payload_len;
             code = serf_agent_event(handle, 0, &info, texts, firing->name_len, payload, firing->payload_len);
             if (code == SERF_AGENT_OK)
@@ -56,18 +57,19 @@ import "C"
 
 import "errors"
 
-// ErrUnread says that outcomes of an earlier burst are still unread, because memory ran out while they were read.
-// Outcomes reads them.
+// ErrUnread says that outcomes of an earlier burst are still unread, because memory ran out while Burst read them. Call
+// Outcomes to read them.
 var ErrUnread = errors.New("outcomes of an earlier burst are unread")
 
 // Burst is a list of calls that Agent.Burst makes one after another, with a single flush for all of them. The zero
-// value is empty. A burst keeps the slices that its calls are given: don't change them before Agent.Burst has returned.
+// value is empty. A burst keeps the slices that you pass to its methods: don't change them before Agent.Burst has
+// returned.
 type Burst struct {
 	calls []burstCall
 }
 
-// Outcome is the result of a call of a burst. One of Received, Fired, FiredQuery and Err is set. Err is why the call was
-// refused, for example NoMessage.
+// Outcome is the result of a call of a burst. One of Received, Fired, FiredQuery and Err is set. Err is the reason if
+// the call was refused, for example NoMessage.
 type Outcome struct {
 	// Call is the call's index in its burst.
 	Call       int
@@ -103,7 +105,7 @@ const (
 	queryCall
 )
 
-// Receive adds a received packet. now and tagsPass are those of Agent.Receive.
+// Receive adds a received packet. now and tagsPass mean the same as for Agent.Receive.
 func (b *Burst) Receive(now uint64, packet []byte, tagsPass bool) {
 	b.calls = append(b.calls, burstCall{kind: receiveCall, now: now, packet: packet, tagsPass: tagsPass})
 }
@@ -130,11 +132,11 @@ func (b *Burst) Reset() {
 }
 
 // Burst makes the calls of a burst one after another, flushes the lines of all of them together, and returns their
-// outcomes in order. A refused call, for example a packet that is no message, has an outcome like the others.
+// outcomes in order. A refused call, for example one with a packet that is no message, also has an outcome.
 //
-// If memory runs out (OutOfMemory), no further call is made. The outcomes that are returned with this error are valid.
-// If they are fewer than the calls that were made, Outcomes returns the others, and every burst before that is refused
-// with ErrUnread. If the file fails, the agent is closed, and there are no outcomes.
+// If memory runs out, Burst makes no further call, and returns OutOfMemory with the outcomes that it has read. These
+// outcomes are valid. If it has made more calls than it returns outcomes, Outcomes returns the rest; until then, every
+// other burst is refused with ErrUnread. If the file fails, the agent is closed, and Burst returns no outcomes.
 func (a *Agent) Burst(burst *Burst) ([]Outcome, error) {
 	a.mu.Lock()
 	defer a.mu.Unlock()
@@ -144,13 +146,14 @@ func (a *Agent) Burst(burst *Burst) ([]Outcome, error) {
 	if err := a.forgetFilters(); err != nil {
 		return nil, err
 	}
-	a.unreadPlace = 0
+	a.unreadIndex = 0
 	callErr := a.makeCalls(burst.calls)
 	if err := a.complete(C.SERF_AGENT_OK); err != nil {
 		return nil, err
 	}
 	outcomes, err := a.outcomes()
-	// The caller may fill its burst with other calls before the unread outcomes are read.
+	// The unread calls are copied, because the caller may fill its burst with other calls before it reads their
+	// outcomes.
 	a.unread = append([]burstCall(nil), a.unread...)
 	if err != nil {
 		return outcomes, err
@@ -180,8 +183,8 @@ func (a *Agent) makeCalls(calls []burstCall) error {
 	for next := 0; next < len(calls); {
 		var code C.uint32_t
 		if firings := leadingFirings(calls[next:]); len(firings) > 0 {
-			done := a.fireEvents(firings)
-			next, code = next+int(done.count), done.code
+			progress := a.fireEvents(firings)
+			next, code = next+int(progress.count), progress.code
 		} else if code = a.makeCall(&calls[next]); code != C.SERF_AGENT_OUT_OF_MEMORY && code != C.SERF_AGENT_EMPTY {
 			next, code = next+1, C.SERF_AGENT_OK
 		}
@@ -192,7 +195,7 @@ func (a *Agent) makeCalls(calls []burstCall) error {
 	return nil
 }
 
-// leadingFirings returns the calls before the first one that is not a firing.
+// leadingFirings returns the firings at the start of calls, up to the first call of another kind.
 func leadingFirings(calls []burstCall) []burstCall {
 	for i := range calls {
 		if calls[i].kind != fireCall {
@@ -202,17 +205,17 @@ func leadingFirings(calls []burstCall) []burstCall {
 	return calls
 }
 
-// firingBatch holds firings that C makes, and reads, in one call. A call from Go to C takes longer than firing an
-// event.
+// firingBatch holds firings that C makes, and then reads, in one call each. That saves time, since a call from Go to C
+// takes longer than firing an event.
 type firingBatch struct {
 	firings []C.struct_firing
 	texts   []byte
 }
 
-// packetOverhead is the maximum number of bytes by which an event's packet is longer than its texts.
+// packetOverhead is the maximum number of bytes that an event's packet has in addition to the event's texts.
 const packetOverhead = 64
 
-// prepare sets the batch's firings, and returns the total length of their texts in bytes.
+// prepare fills the batch with the firings of these calls, and returns the total length of their texts in bytes.
 func (b *firingBatch) prepare(calls []burstCall) (length int) {
 	b.firings = b.firings[:0]
 	for i := range calls {
@@ -225,7 +228,7 @@ func (b *firingBatch) prepare(calls []burstCall) (length int) {
 	return length
 }
 
-// fireEvents fires events. It returns how many were fired, and the code of the call at which it stopped.
+// fireEvents fires events. It returns how many were fired, and the code of the last call.
 func (a *Agent) fireEvents(calls []burstCall) C.struct_progress {
 	batch := &a.batch
 	batch.prepare(calls)
@@ -236,7 +239,8 @@ func (a *Agent) fireEvents(calls []burstCall) C.struct_progress {
 	return C.fire_all(a.handle, &batch.firings[0], C.size_t(len(calls)), ptr(batch.texts))
 }
 
-// chunkBytes is how much memory in bytes short events share at most. Whoever keeps one of them keeps the whole chunk.
+// chunkBytes is the maximum size in bytes of a chunk of memory that several short events share. A caller that keeps one
+// of these events keeps the whole chunk in memory.
 const chunkBytes = 1 << 10
 
 // readFirings appends the outcomes of firings to outcomes.
@@ -247,17 +251,17 @@ func (a *Agent) readFirings(calls []burstCall, outcomes []Outcome) ([]Outcome, e
 		batch.texts = make([]byte, room)
 	}
 	batch.texts = batch.texts[:room]
-	done := C.read_all(a.handle, &batch.firings[0], C.size_t(len(calls)), ptr(batch.texts), packetOverhead)
-	a.unread, a.unreadPlace = a.unread[done.count:], a.unreadPlace+int(done.count)
-	unread, chunk := batch.texts, []byte(nil)
+	progress := C.read_all(a.handle, &batch.firings[0], C.size_t(len(calls)), ptr(batch.texts), packetOverhead)
+	a.unread, a.unreadIndex = a.unread[progress.count:], a.unreadIndex+int(progress.count)
+	unreadTexts, chunk := batch.texts, []byte(nil)
 	events := make([]struct {
 		Fired
 		Event
-	}, done.count)
+	}, progress.count)
 	for i := range events {
-		info, event, place := &batch.firings[i], &events[i], a.unreadPlace-len(events)+i
-		if info.answered != C.SERF_AGENT_OK {
-			outcomes = append(outcomes, Outcome{Call: place, Err: Code(info.answered)})
+		info, event, callIndex := &batch.firings[i], &events[i], a.unreadIndex-len(events)+i
+		if info.outcome_code != C.SERF_AGENT_OK {
+			outcomes = append(outcomes, Outcome{Call: callIndex, Err: Code(info.outcome_code)})
 			continue
 		}
 		nameEnd, payloadEnd := int(info.name_len), int(info.name_len+info.payload_len)
@@ -265,18 +269,18 @@ func (a *Agent) readFirings(calls []burstCall, outcomes []Outcome) ([]Outcome, e
 		if cap(chunk)-len(chunk) < length {
 			chunk = make([]byte, 0, chunkSize(length, len(events)-i))
 		}
-		from := len(chunk)
-		chunk = append(chunk, unread[:length]...)
-		texts := chunk[from:]
-		unread = unread[length:]
+		start := len(chunk)
+		chunk = append(chunk, unreadTexts[:length]...)
+		texts := chunk[start:]
+		unreadTexts = unreadTexts[length:]
 		event.Event = Event{uint64(info.time), texts[:nameEnd:nameEnd], texts[nameEnd:payloadEnd:payloadEnd], bool(info.coalesce)}
 		event.Fired = Fired{&event.Event, texts[payloadEnd:length:length]}
-		outcomes = append(outcomes, Outcome{Call: place, Fired: &event.Fired})
+		outcomes = append(outcomes, Outcome{Call: callIndex, Fired: &event.Fired})
 	}
-	return outcomes, errorOf(done.code)
+	return outcomes, errorOf(progress.code)
 }
 
-// chunkSize returns how many bytes to allocate for this many events, of which the first has this length.
+// chunkSize returns how many bytes to allocate for a number of events. length is the length of the first one.
 func chunkSize(length, events int) int {
 	if length*events < chunkBytes {
 		return length * events
@@ -305,7 +309,7 @@ func (a *Agent) makeCall(call *burstCall) C.uint32_t {
 	return code
 }
 
-// outcomes reads the unread outcomes.
+// outcomes reads the outcomes that are still unread.
 func (a *Agent) outcomes() (outcomes []Outcome, err error) {
 	outcomes = make([]Outcome, 0, len(a.unread))
 	for len(a.unread) > 0 && err == nil {
@@ -323,12 +327,12 @@ func (a *Agent) outcomes() (outcomes []Outcome, err error) {
 
 // readOutcome appends the outcome of a call that is not a firing.
 func (a *Agent) readOutcome(call *burstCall, outcomes []Outcome) ([]Outcome, error) {
-	var answered C.uint32_t
-	if err := errorOf(C.serf_agent_next(a.handle, &answered)); err != nil {
+	var outcomeCode C.uint32_t
+	if err := errorOf(C.serf_agent_next(a.handle, &outcomeCode)); err != nil {
 		return outcomes, err
 	}
-	outcome := Outcome{Call: a.unreadPlace, Err: errorOf(answered)}
-	a.unread, a.unreadPlace = a.unread[1:], a.unreadPlace+1
+	outcome := Outcome{Call: a.unreadIndex, Err: errorOf(outcomeCode)}
+	a.unread, a.unreadIndex = a.unread[1:], a.unreadIndex+1
 	var err error
 	if outcome.Err == nil && call.kind == receiveCall {
 		outcome.Received, err = a.receivedResult(call.packet)

@@ -47,7 +47,7 @@ func TestBurstWhileOutcomesAreUnread(t *testing.T) {
 	if outcomes, err := agent.Burst(&burst); err != ErrUnread || len(outcomes) != 0 {
 		t.Error(outcomes, err)
 	}
-	// As if memory had run out after the first outcome.
+	// This reads only the first outcome, as if memory had run out after it.
 	first, err := agent.readFirings(agent.unread[:1], nil)
 	if err != nil || len(first) != 1 || first[0].Call != 0 || first[0].Fired.Event.Time != 1 {
 		t.Error(first, err)

@@ -7,7 +7,7 @@ import (
 	"testing"
 )
 
-// must ends the test if err is an error, and check lets it continue.
+// must ends the test if err is an error; check only reports the error.
 func must(t *testing.T, err error) {
 	t.Helper()
 	if err != nil {
@@ -22,7 +22,8 @@ func check(t *testing.T, err error) {
 	}
 }
 
-func opened(t *testing.T, name string) (*Agent, string) {
+// openTestAgent opens an agent in a new folder, and returns the path of its snapshot too.
+func openTestAgent(t *testing.T, name string) (*Agent, string) {
 	path := filepath.Join(t.TempDir(), name+".snapshot")
 	agent, err := Open(name, path, DefaultSettings())
 	must(t, err)
@@ -30,7 +31,7 @@ func opened(t *testing.T, name string) (*Agent, string) {
 	return agent, path
 }
 
-// textOf returns what a file has in front of its filler.
+// textOf returns the text of a file without its filler.
 func textOf(t *testing.T, path string) string {
 	text, err := os.ReadFile(path)
 	must(t, err)
@@ -40,8 +41,8 @@ func textOf(t *testing.T, path string) string {
 }
 
 func TestBurstOutcomesInOrder(t *testing.T) {
-	sender, _ := opened(t, "one")
-	receiver, path := opened(t, "other")
+	sender, _ := openTestAgent(t, "one")
+	receiver, path := openTestAgent(t, "other")
 	_, packet, err := sender.Fire([]byte("deploy"), nil, false)
 	must(t, err)
 	var burst Burst
@@ -81,14 +82,14 @@ func TestBurstOutcomesInOrder(t *testing.T) {
 	}
 }
 
-// Texts that just fit into the buffer, that just don't, and that have the maximum length.
+// An agent hands out texts that just fit into the buffer, texts that just don't, and texts of the maximum length.
 func TestTextsOfEveryLength(t *testing.T) {
 	settings := DefaultSettings()
 	settings.EventLimit = 9216
 	agent, err := Open("long", filepath.Join(t.TempDir(), "snapshot"), settings)
 	must(t, err)
 	defer agent.Close()
-	other, _ := opened(t, "other")
+	other, _ := openTestAgent(t, "other")
 	for _, lengths := range [][2]int{
 		{0, 0}, {1, 0}, {nameBytes - 1, 1}, {nameBytes, bufferBytes - nameBytes}, {nameBytes + 1, 0}, {3, bufferBytes - nameBytes + 1}, {400, 8700}, {9100, 0}, {0, 9100},
 	} {
@@ -108,7 +109,7 @@ func TestTextsOfEveryLength(t *testing.T) {
 }
 
 func TestEmptyBurstAndClosedAgent(t *testing.T) {
-	agent, _ := opened(t, "one")
+	agent, _ := openTestAgent(t, "one")
 	var burst Burst
 	if outcomes, err := agent.Burst(&burst); err != nil || len(outcomes) != 0 {
 		t.Error(outcomes, err)

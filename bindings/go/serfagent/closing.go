@@ -8,12 +8,14 @@ import "C"
 type Closed struct {
 	Time uint64
 	ID   uint32
-	// The last moment at which an answer was counted.
+	// Deadline is the last moment at which the agent counted answers.
 	Deadline  uint64
 	Acks      []string
 	Responses []*Answer
 }
 
+// closedAck returns the name of a node that acked a closed query. The first call returns the length, and the second one
+// the name.
 func (a *Agent) closedAck(index, number C.size_t) (string, error) {
 	var length C.size_t
 	var name []byte
@@ -26,8 +28,10 @@ func (a *Agent) closedAck(index, number C.size_t) (string, error) {
 	return string(name), nil
 }
 
+// closedResponse returns a response to a closed query.
 func (a *Agent) closedResponse(index, number C.size_t) (from, payload []byte, err error) {
 	var info C.struct_serf_agent_response
+	// The first call returns the lengths, and the second one the texts.
 	for i := 0; i < 2; i++ {
 		from, payload = make([]byte, info.from_len), make([]byte, info.payload_len)
 		if err = errorOf(C.serf_agent_closed_response(a.handle, index, number, &info, ptr(from), size(from), ptr(payload), size(payload))); err != nil {
@@ -62,7 +66,7 @@ func (a *Agent) closedQuery(index C.size_t) (*Closed, error) {
 }
 
 // CloseDue closes this agent's queries whose deadline is before now. It returns them with their answers, in the order
-// in which they were fired. Queries that were handed out here are forgotten if their deadline is before now.
+// in which they were fired. It also forgets the queries that were handed out here and whose deadline is before now.
 func (a *Agent) CloseDue(now uint64) ([]*Closed, error) {
 	a.mu.Lock()
 	defer a.mu.Unlock()
@@ -83,7 +87,7 @@ func (a *Agent) CloseDue(now uint64) ([]*Closed, error) {
 // DefaultSnapshotLimit is the size in bytes above which Serf compacts its snapshot.
 const DefaultSnapshotLimit uint64 = C.SERF_AGENT_DEFAULT_SNAPSHOT_LIMIT
 
-// ShouldCompact reports whether the file is larger than limit bytes, and Compact would remove at least half of it.
+// ShouldCompact reports whether the file is larger than limit bytes and Compact would remove at least half of it.
 func (a *Agent) ShouldCompact(limit uint64) (bool, error) {
 	a.mu.Lock()
 	defer a.mu.Unlock()

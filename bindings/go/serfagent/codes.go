@@ -5,7 +5,7 @@ import "C"
 
 import "fmt"
 
-// Code is why the library refused a call.
+// Code is the reason why the library refused a call.
 type Code uint32
 
 // include/serf_agent.h describes each code. If a packet is refused with NoMessage, PacketErrorOf returns the reason.
@@ -44,6 +44,7 @@ func (c Code) Error() string {
 	return fmt.Sprintf("code %d", uint32(c))
 }
 
+// errorOf returns the error for a code of the library, or nil for SERF_AGENT_OK.
 func errorOf(code C.uint32_t) error {
 	if code == C.SERF_AGENT_OK {
 		return nil

@@ -25,7 +25,7 @@ func mustOpen(name, path string) *Agent {
 	return agent
 }
 
-// An event is fired, arrives at another agent twice, and is handed out once, although that agent was restarted in
+// An event is fired and arrives at another agent twice. That agent hands it out once, although it was restarted in
 // between.
 func Example() {
 	inFolder(func(folder string) {
@@ -69,7 +69,7 @@ func ExampleAgent_Merge() {
 		if err != nil {
 			log.Fatal(err)
 		}
-		// After OutOfMemory, the events that were accepted before are returned with the error: handle them too.
+		// If memory runs out, Merge returns OutOfMemory and the events that it accepted before. Handle them too.
 		events, err := beta.Merge(state, true)
 		for _, event := range events {
 			fmt.Printf("%s %s at %d\n", event.Name, event.Payload, event.Time)
@@ -117,7 +117,7 @@ func ExampleAgent_Query() {
 	// Output: beta answered 0.12
 }
 
-// PacketErrorOf says why a packet is not a message, as an error that can be logged.
+// PacketErrorOf returns the reason why a packet is not a message, as an error that can be logged.
 func ExamplePacketErrorOf() {
 	err, isBad := PacketErrorOf([]byte{3, 0x81})
 	fmt.Println(isBad, err)

@@ -9,10 +9,10 @@ import (
 	"syscall"
 )
 
-// A host has files next to the snapshot, for example its keys. WriteFile writes them as durably as the snapshot, and
-// OpenPlain and ReadFile read them safely even if somebody put something else there.
+// A host has other files next to the snapshot, for example its keys. WriteFile writes such a file as durably as the
+// snapshot. OpenPlain and ReadFile read one safely, even if somebody has put a pipe or a huge file in its place.
 
-// WriteFile replaces a file's content durably: after a crash it has the old bytes or the new ones.
+// WriteFile replaces a file's content durably: after a crash, the file has either the old bytes or the new ones.
 func WriteFile(path string, data []byte, mode os.FileMode) error {
 	temporary := path + ".new"
 	file, err := os.OpenFile(temporary, os.O_WRONLY|os.O_CREATE|os.O_TRUNC, mode)
@@ -36,7 +36,7 @@ func WriteFile(path string, data []byte, mode os.FileMode) error {
 	return syncFolder(path)
 }
 
-// OpenPlain opens a regular file for reading. It doesn't block, as opening a pipe would.
+// OpenPlain opens a regular file for reading. If the path is a pipe, it returns an error and doesn't block.
 func OpenPlain(path string) (*os.File, error) {
 	file, err := os.OpenFile(path, os.O_RDONLY|syscall.O_NONBLOCK, 0)
 	if err != nil {
@@ -49,7 +49,7 @@ func OpenPlain(path string) (*os.File, error) {
 	return file, nil
 }
 
-// ReadFile reads a regular file. A file of more than max bytes is an error.
+// ReadFile reads a regular file. It returns an error if the file has more than max bytes.
 func ReadFile(path string, max int64) ([]byte, error) {
 	file, err := OpenPlain(path)
 	if err != nil {

@@ -11,29 +11,30 @@ import (
 	"syscall"
 )
 
-// A write that moves the end of a file makes its flush wait for the file system's journal. So a Store keeps filler after its
-// text: one line of `#` only, which says nothing to any reader of snapshots, ours or Serf's. New bytes overwrite the
-// beginning of the filler, so the end of the file doesn't move. docs/HOST.md ("Filler") says why no torn write of this kind
-// makes a line that was never written whole.
+// If a write moves the end of a file, its flush has to wait for the file system's journal. So a Store keeps filler
+// after its text: one line with only the character `#`, which every reader of snapshots ignores, ours and Serf's. New
+// bytes overwrite the beginning of the filler, so the end of the file doesn't move. A power cut may interrupt such a
+// write; docs/HOST.md ("Filler") says why that never produces a line that nobody wrote.
 
-// fillerBytes is how many bytes of filler follow a text when filler is prepared.
+// fillerBytes is how many bytes of filler a Store writes after its text when it prepares new filler.
 const fillerBytes = 64 << 10
 
-// minFiller is the length of the shortest filler that is left: `#` and the newline. With the newline alone, an empty line would follow
-// the text.
+// minFiller is the minimum length of filler in bytes: one `#` and the newline. If only the newline were left, an empty
+// line would follow the text.
 const minFiller = 2
 
 // ErrChanged: somebody else changed the length of the file while the store had it open.
 var ErrChanged = errors.New("the snapshot was changed from outside")
 
-// fillerOf returns filler of a length.
+// fillerOf returns filler of a length in bytes.
 func fillerOf(length int64) []byte {
 	filler := bytes.Repeat([]byte("#"), int(length))
 	filler[length-1] = '\n'
 	return filler
 }
 
-// runStart returns the beginning of the run of `#` that ends at a place, and the byte before it. Before the first byte of a file is a newline.
+// runStart returns the position at which the run of `#` that ends at end begins, and the byte before that run. If the
+// run begins at the start of the file, that byte is a newline.
 func runStart(file io.ReaderAt, end int64) (start int64, before byte, err error) {
 	buffer := make([]byte, fillerBytes)
 	for start = end; start > 0; {
@@ -44,16 +45,17 @@ func runStart(file io.ReaderAt, end int64) (start int64, before byte, err error)
 		if _, err := file.ReadAt(part, start-int64(len(part))); err != nil {
 			return 0, 0, err
 		}
-		kept := bytes.TrimRight(part, "#")
-		if start -= int64(len(part) - len(kept)); len(kept) > 0 {
-			return start, kept[len(kept)-1], nil
+		rest := bytes.TrimRight(part, "#")
+		if start -= int64(len(part) - len(rest)); len(rest) > 0 {
+			return start, rest[len(rest)-1], nil
 		}
 	}
 	return 0, '\n', nil
 }
 
-// textEnd returns the end of the text of a file with this size, and whether what follows is filler. The last line of the file is filler
-// if it is `#` only. If the file ends within a line, the `#` at its end are filler that was being prepared, without its newline.
+// textEnd returns the end of the text of a file with this size, and whether the bytes after the text are filler. The
+// last line of the file is filler if it has only `#`. If the file ends within a line, a run of `#` at its end is filler
+// whose newline was not written yet.
 func textEnd(file io.ReaderAt, size int64) (end int64, isFiller bool, err error) {
 	if size == 0 {
 		return 0, true, nil
@@ -73,8 +75,9 @@ func textEnd(file io.ReaderAt, size int64) (end int64, isFiller bool, err error)
 	return end, true, err
 }
 
-// findText finds the end of the text in a file that was just opened. It removes what follows the text if that is no filler.
-func (s *Store) findText() error {
+// findTextEnd finds the end of the text in a file that was just opened. If the bytes after the text are not filler, it
+// removes them.
+func (s *Store) findTextEnd() error {
 	info, err := s.file.Stat()
 	if err != nil {
 		return err
@@ -88,8 +91,9 @@ func (s *Store) findText() error {
 	return s.file.Truncate(s.end)
 }
 
-// checkSize returns ErrChanged if the file isn't as long as the store made it. (After a call of stat, ext4 stores a new time for the next
-// write, and a flush then takes as long as if the file had grown. A seek doesn't read the file's times.)
+// checkSize returns ErrChanged if the file isn't as long as the store made it. It finds the length by a seek. After a
+// stat, which reads the file's times, ext4 would store a new time with the next write, and the flush would take as long
+// as if the file had grown.
 func (s *Store) checkSize() error {
 	size, err := s.file.Seek(0, io.SeekEnd)
 	if err == nil && size != s.size {
@@ -118,27 +122,28 @@ func (s *Store) write(data []byte) error {
 	if endsLine && !s.isFull {
 		return s.writeWithFiller(data)
 	}
-	return s.writeAlone(data)
+	return s.writeWithoutFiller(data)
 }
 
-// writeWithFiller writes data and filler at the end of the file. If the disk has no room for the filler, it writes the data alone.
+// writeWithFiller writes data, and filler after it, at the end of the file. If the disk has no room for the filler, it
+// writes only the data.
 func (s *Store) writeWithFiller(data []byte) error {
-	both := append(data[:len(data):len(data)], s.filler...)
-	if _, err := s.file.WriteAt(both, s.end); err == nil {
+	dataAndFiller := append(data[:len(data):len(data)], s.filler...)
+	if _, err := s.file.WriteAt(dataAndFiller, s.end); err == nil {
 		s.end += int64(len(data))
-		s.size += int64(len(both))
+		s.size += int64(len(dataAndFiller))
 		return nil
 	}
 	s.isFull = true
-	if err := s.writeAlone(data); err != nil {
+	if err := s.writeWithoutFiller(data); err != nil {
 		return err
 	}
 	// (the first try may have written a part of the filler)
 	return s.file.Truncate(s.end)
 }
 
-// writeAlone writes data at the end of the file.
-func (s *Store) writeAlone(data []byte) error {
+// writeWithoutFiller writes data at the end of the file.
+func (s *Store) writeWithoutFiller(data []byte) error {
 	if _, err := s.file.WriteAt(data, s.end); err != nil {
 		return err
 	}
@@ -147,8 +152,8 @@ func (s *Store) writeAlone(data []byte) error {
 	return nil
 }
 
-// cutFiller removes the filler, and flushes that. If new bytes reached the disk over the filler's newline, a power cut could leave the first
-// part of a line with that newline after it.
+// cutFiller removes the filler and flushes the new length of the file. Without this, new bytes could overwrite the
+// filler's newline, and a power cut could leave the first part of a line with the old newline after it.
 func (s *Store) cutFiller() error {
 	if s.size == s.end {
 		return nil
@@ -160,7 +165,7 @@ func (s *Store) cutFiller() error {
 	return flushData(s.file)
 }
 
-// removeFiller removes the filler that the file really has, if nobody else changed the file's length.
+// removeFiller removes the file's filler, if nobody else has changed the file's length.
 func (s *Store) removeFiller() error {
 	if err := s.checkSize(); errors.Is(err, ErrChanged) {
 		return nil
@@ -174,10 +179,10 @@ func (s *Store) removeFiller() error {
 	return s.file.Truncate(end)
 }
 
-// flushData flushes a file's bytes, and its length if it has changed. It doesn't wait for the file's times.
+// flushData flushes a file's bytes, and its length if that has changed. It doesn't flush the file's timestamps.
 func flushData(file *os.File) error { return syscall.Fdatasync(int(file.Fd())) }
 
-// AppendUnflushed appends data without a flush. Whatever flushes the file later flushes the data too.
+// AppendUnflushed appends data without a flush. The next flush of the file flushes the data too.
 func (s *Store) AppendUnflushed(data []byte) error {
 	return s.attempt(func() error {
 		if len(data) == 0 {
@@ -187,7 +192,8 @@ func (s *Store) AppendUnflushed(data []byte) error {
 	})
 }
 
-// Check returns ErrChanged if somebody else changed the file's length, or wrote over its filler. Each append checks the length too.
+// Check returns ErrChanged if somebody else has changed the file's length or overwritten its filler. Each append also
+// checks the length.
 func (s *Store) Check() error {
 	if s.file == nil {
 		return fmt.Errorf("%s: %w", s.path, ErrBroken)

@@ -13,7 +13,7 @@ import (
 	"testing"
 )
 
-// storeOn opens a store on a file with these bytes, which prepares so much filler.
+// storeOn writes a file with this data and opens a store on it. The store prepares filler bytes of filler at a time.
 func storeOn(t *testing.T, path, data string, filler int64) *Store {
 	t.Helper()
 	if err := os.WriteFile(path, []byte(data), 0o600); err != nil {
@@ -22,6 +22,7 @@ func storeOn(t *testing.T, path, data string, filler int64) *Store {
 	return openAgain(t, path, filler)
 }
 
+// openAgain opens a store on an existing file. The store prepares filler bytes of filler at a time.
 func openAgain(t *testing.T, path string, filler int64) *Store {
 	t.Helper()
 	store, err := OpenStore(path)
@@ -41,7 +42,7 @@ func fileText(t *testing.T, path string) string {
 	return string(data)
 }
 
-// checkFile checks that a file has this text, and then a line of `#` if anything follows.
+// checkFile checks that a file has this text, followed by this many bytes of filler.
 func checkFile(t *testing.T, path, text string, filler int) {
 	t.Helper()
 	want := text
@@ -60,8 +61,8 @@ func (s *Store) mustAppend(t *testing.T, lines string) {
 	}
 }
 
-// New lines overwrite the filler, so the file keeps its length. If there isn't enough, the filler is cut, and new filler follows
-// the next lines. Filler of the newline alone is never left.
+// New lines overwrite the filler, so the file keeps its length. If there isn't enough filler, the store removes it, and
+// writes new filler after the next lines. It never leaves filler that is only a newline.
 func TestLinesOverFiller(t *testing.T) {
 	path := filepath.Join(t.TempDir(), "file")
 	store := storeOn(t, path, "", 20)
@@ -96,7 +97,7 @@ func TestLinesOverFiller(t *testing.T) {
 	checkFile(t, path, "clock: 6\nclock: 7\nalive: a 1:1\n", 7)
 }
 
-// A store that is closed leaves no filler. After a kill it is there, and the next store writes in front of it.
+// A store that is closed leaves no filler. After a kill, the filler is still there, and the next store overwrites it.
 func TestFillerOfAnotherLife(t *testing.T) {
 	path := filepath.Join(t.TempDir(), "file")
 	store := storeOn(t, path, "", 100)
@@ -118,7 +119,7 @@ func TestFillerOfAnotherLife(t *testing.T) {
 	checkFile(t, path, "clock: 1\nclock: 2\n", 0)
 }
 
-// The text that an opening reads, and what it leaves of the file.
+// OpenStore reads the text of a file, and removes torn filler.
 func TestTextOfAFile(t *testing.T) {
 	path := filepath.Join(t.TempDir(), "file")
 	long := strings.Repeat("#", 3*fillerBytes)
@@ -129,7 +130,7 @@ func TestTextOfAFile(t *testing.T) {
 		{"a\n###\n", "a\n", "a\n###\n"},
 		{"###\n", "", "###\n"},
 		{"a\n" + long + "\n", "a\n", "a\n" + long + "\n"},
-		// a line that was torn over filler, and a sealed one, are lines that say nothing
+		// a line that was partly written over filler, and a sealed line, are kept, although readers ignore them
 		{"a\nclock: 1###\n", "a\nclock: 1###\n", "a\nclock: 1###\n"},
 		{"a\nclock: 1#\n", "a\nclock: 1#\n", "a\nclock: 1#\n"},
 		{"a\nclock: 1#\n###\n", "a\nclock: 1#\n", "a\nclock: 1#\n###\n"},
@@ -141,7 +142,7 @@ func TestTextOfAFile(t *testing.T) {
 		{"#", "", ""},
 		{"clock: 1###", "clock: 1", "clock: 1"},
 		{"clock: 1", "clock: 1", "clock: 1"},
-		// filler in the middle is a line like others
+		// filler in the middle of the file is an ordinary line
 		{"a\n###\nb\n", "a\n###\nb\n", "a\n###\nb\n"},
 		{"a\n###\nb\n##\n", "a\n###\nb\n", "a\n###\nb\n##\n"},
 	} {
@@ -158,8 +159,9 @@ func TestTextOfAFile(t *testing.T) {
 	}
 }
 
-// saysSomething reports whether a line may say something to an agent or to Serf. No line that they write has a `#` after its first byte.
-func saysSomething(line string) bool {
+// hasMeaning reports whether an agent or Serf may read something from a line. No line that they write has a `#`
+// after its first byte.
+func hasMeaning(line string) bool {
 	for _, word := range []string{
 		"clock: ", "event-clock: ", "query-clock: ", "alive: ", "not-alive: ", "leave", "coordinate: ",
 		"#event ", "#query ", "#least ", "#open ", "#begun ", "#done ",
@@ -171,8 +173,8 @@ func saysSomething(line string) bool {
 	return false
 }
 
-// A power cut may leave old filler in place of any run of new bytes. Each line that says something was then written whole, and the text that
-// an opening reads begins with what was flushed.
+// A power cut may leave old filler in place of any run of new bytes. Even then, each line that says something was
+// written whole, and the text that the next store reads begins with the flushed bytes.
 func TestTornOverFiller(t *testing.T) {
 	flushed := "clock: 1\nevent-clock: 011\nalive: a 1:1\n"
 	lines := "event-clock: 012\n#event 12 6162 63\nalive: event 5 61 10.0.0.1:7946\nquery-clock: 7\n#query 7 12\nclock: 123456\n" +
@@ -190,7 +192,7 @@ func TestTornOverFiller(t *testing.T) {
 				continue
 			}
 			for _, line := range strings.Split(strings.TrimSuffix(mixed, "\n"), "\n") {
-				if line == "" || saysSomething(line) && !written[line] {
+				if line == "" || hasMeaning(line) && !written[line] {
 					t.Fatalf("%q is in %q", line, mixed)
 				}
 			}
@@ -211,8 +213,8 @@ func TestTornOverFiller(t *testing.T) {
 	}
 }
 
-// inChild runs the test in a child process. It reports whether this is the child. TEST_EXEC has the words that start a program of this
-// processor on another one; it is empty otherwise.
+// inChild runs the test in a child process. It reports whether this process is the child. If the tests run in an
+// emulator of another processor, TEST_EXEC has the words that start a program in it; otherwise it is empty.
 func inChild(t *testing.T) bool {
 	t.Helper()
 	if os.Getenv("IN_CHILD") != "" {
@@ -228,7 +230,7 @@ func inChild(t *testing.T) bool {
 	return false
 }
 
-// limitFiles limits the size of the files of this process, so that a disk seems full.
+// limitFiles limits the size of files that this process writes, so that the disk seems full.
 func limitFiles(t *testing.T, size uint64) {
 	t.Helper()
 	var limit syscall.Rlimit
@@ -241,7 +243,8 @@ func limitFiles(t *testing.T, size uint64) {
 	}
 }
 
-// If a disk has room for a line and not for filler, the line is appended. If it has no room for the line, the store is broken.
+// If a disk has room for a line but not for filler, the line is appended. If the disk has no room for the line either,
+// the store is broken.
 func TestFullDiskWithoutFiller(t *testing.T) {
 	if !inChild(t) {
 		return
@@ -256,7 +259,7 @@ func TestFullDiskWithoutFiller(t *testing.T) {
 		text += "clock: 1\n"
 		checkFile(t, path, text, 0)
 	}
-	// (with the room that a shorter text leaves, filler is tried again)
+	// (the shorter text leaves more room, so the store tries to write filler again)
 	if err := store.Replace([]byte("clock: 2\n")); err != nil {
 		t.Fatal(err)
 	}
@@ -274,7 +277,7 @@ func TestFullDiskWithoutFiller(t *testing.T) {
 	}
 }
 
-// After the disk had no room for filler, there is filler again once the file was replaced.
+// If the disk had no room for filler, the store writes filler again when the file is replaced.
 func TestFillerAfterAFullDisk(t *testing.T) {
 	if !inChild(t) {
 		return
@@ -295,7 +298,8 @@ func TestFillerAfterAFullDisk(t *testing.T) {
 	checkFile(t, path, "clock: 2\nclock: 3\n", 1000)
 }
 
-// Bytes that end no line have no filler after them, so that what follows continues the line.
+// If the appended bytes don't end with a newline, the store writes no filler after them, so that the next bytes
+// continue the line.
 func TestBytesWithinALine(t *testing.T) {
 	path := filepath.Join(t.TempDir(), "file")
 	store := storeOn(t, path, "", 100)
@@ -307,8 +311,8 @@ func TestBytesWithinALine(t *testing.T) {
 	checkFile(t, path, "clock: 1\nclock: 2\n", 100)
 }
 
-// If somebody else changes the file's length, nothing is written any more, and the file stays as it is. What is written over the filler is found
-// by Check.
+// If somebody else changes the file's length, the store writes nothing more, and the file stays as it is. If somebody
+// overwrites the filler, Check finds that.
 func TestFileOfAnother(t *testing.T) {
 	folder := t.TempDir()
 	for name, change := range map[string]func(text string) string{
@@ -351,7 +355,8 @@ func TestFileOfAnother(t *testing.T) {
 	}
 }
 
-// An agent's lines and the host's own are in the file in their order, in front of the filler. The next life is opened on them.
+// The file has an agent's lines and the host's own lines in the order in which they were appended, in front of the
+// filler. The next life opens on these lines.
 func TestLinesOfTheHost(t *testing.T) {
 	path := filepath.Join(t.TempDir(), "file")
 	for life := 0; life < 2; life++ {
@@ -369,7 +374,7 @@ func TestLinesOfTheHost(t *testing.T) {
 		}
 		killed := fileText(t, path)
 		text := strings.TrimRight(strings.TrimSuffix(killed, "\n"), "#")
-		if size := agent.TextSize(); size != int64(len(text)) || len(killed) != len(text)+fillerBytes-life0(life, len(text)) {
+		if size := agent.TextSize(); size != int64(len(text)) || len(killed) != len(text)+fillerBytes-overwrittenBytes(life, len(text)) {
 			t.Errorf("%d bytes, of which %d are text, and not %d", len(killed), len(text), size)
 		}
 		if err := agent.Check(); err != nil {
@@ -394,5 +399,6 @@ func TestLinesOfTheHost(t *testing.T) {
 	}
 }
 
-// life0 returns how many bytes of the first filler the lines overwrote: all but those of the first line, in either life.
-func life0(life, text int) int { return text - len("event-clock: 1\n") }
+// overwrittenBytes returns how many bytes of the first filler the lines have overwritten. In either life, these are all bytes of
+// the text except those of its first line.
+func overwrittenBytes(life, text int) int { return text - len("event-clock: 1\n") }

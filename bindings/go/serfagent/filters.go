@@ -17,8 +17,8 @@ func FilterByNames(names ...string) []byte {
 	return filter
 }
 
-// FilterByTag returns a filter for QueryParams that a node passes if the expression matches a part of its tag. Serf
-// reads the expression with the package regexp.
+// FilterByTag returns a filter for QueryParams that a node passes if the expression matches a part of the tag's value.
+// Serf compiles the expression with the package regexp.
 func FilterByTag(tag, expression string) []byte {
 	filter := []byte{TagFilter, 0x82}
 	for _, text := range []string{"Expr", expression, "Tag", tag} {
@@ -39,12 +39,12 @@ func appendHead(data []byte, short byte, shortCount int, wide byte, count int) [
 	return binary.BigEndian.AppendUint32(append(data, wide+1), uint32(count))
 }
 
-// FiltersOf returns the filters of a query's packet, in order, or nil if the packet is no query. No agent is needed.
+// FiltersOf returns the filters of a query's packet, in order, or nil if the packet is no query. It needs no agent.
 func FiltersOf(packet []byte) ([][]byte, error) {
 	var sizes C.struct_serf_agent_filters
 	var lengths []C.size_t
 	var filters []byte
-	// The first call returns the sizes, the second the filters.
+	// The first call returns the sizes, and the second one the filters.
 	for i := 0; i < 2; i++ {
 		// One more, because C needs an address even if there are no filters.
 		lengths, filters = make([]C.size_t, sizes.filters+1), make([]byte, sizes.filters_len)

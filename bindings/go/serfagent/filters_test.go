@@ -6,15 +6,15 @@ import (
 	"testing"
 )
 
-// The filters of the node test, of another node, of a tag, and of an unknown type, and whether the query is handed out
-// if the host passes that its tags don't match, and if it passes that they do.
+// A query has filters by the name of this node, by another name, by a tag, or of an unknown type. The test checks
+// whether the agent hands it out, once with tagsPass false and once with tagsPass true.
 func TestTagsPass(t *testing.T) {
 	node, other, tag, unknown := "\x00\x91\xa4test", "\x00\x91\xa1c", "\x01\x82\xa4Expr\xa0\xa3Tag\xa1a", "\x02"
-	asker, _ := opened(t, "asks")
-	agent, _ := opened(t, "test")
+	firingAgent, _ := openTestAgent(t, "asks")
+	agent, _ := openTestAgent(t, "test")
 	for _, test := range []struct {
-		filters []string
-		handed  [2]bool
+		filters       []string
+		wantHandedOut [2]bool
 	}{
 		{nil, [2]bool{true, true}}, {[]string{tag}, [2]bool{false, true}}, {[]string{node, tag, tag}, [2]bool{false, true}},
 		{[]string{tag, other}, [2]bool{}}, {[]string{tag, unknown}, [2]bool{}}, {[]string{node}, [2]bool{true, true}}, {[]string{""}, [2]bool{}},
@@ -23,40 +23,40 @@ func TestTagsPass(t *testing.T) {
 		for _, filter := range test.filters {
 			filters = append(filters, []byte(filter))
 		}
-		packet := func() []byte {
-			query, err := asker.Query(1, 7, []byte("who"), nil, QueryParams{Timeout: 1000, Filters: filters})
+		firePacket := func() []byte {
+			query, err := firingAgent.Query(1, 7, []byte("who"), nil, QueryParams{Timeout: 1000, Filters: filters})
 			must(t, err)
 			return query.Packet
 		}
 		for i, passes := range []bool{false, true} {
-			first := packet()
+			first := firePacket()
 			if filtersFound, err := FiltersOf(first); err != nil || !reflect.DeepEqual(filtersFound, filters) {
 				t.Errorf("%q: %q %v", test.filters, filtersFound, err)
 			}
 			received, err := agent.Receive(1, first, passes)
-			if err != nil || received.Kind != NewQuery || (received.Query != nil) != test.handed[i] {
+			if err != nil || received.Kind != NewQuery || (received.Query != nil) != test.wantHandedOut[i] {
 				t.Errorf("%q, %v: %v %v", test.filters, passes, received, err)
 			}
 			var burst Burst
-			burst.Receive(1, packet(), passes)
+			burst.Receive(1, firePacket(), passes)
 			outcomes, err := agent.Burst(&burst)
-			if err != nil || (outcomes[0].Received.Query != nil) != test.handed[i] {
+			if err != nil || (outcomes[0].Received.Query != nil) != test.wantHandedOut[i] {
 				t.Errorf("%q, %v, in a burst: %v %v", test.filters, passes, outcomes, err)
 			}
 			params := QueryParams{Timeout: 1000, WantAck: true, TagsPass: passes, Filters: filters}
 			own, err := agent.Query(1, 8, []byte("who"), nil, params)
-			if err != nil || (own.Query != nil) != test.handed[i] || (own.Ack != nil) != test.handed[i] {
+			if err != nil || (own.Query != nil) != test.wantHandedOut[i] || (own.Ack != nil) != test.wantHandedOut[i] {
 				t.Errorf("its own of %q, %v: %v %v", test.filters, passes, own, err)
 			}
 			burst.Reset()
 			burst.Query(1, 8, []byte("who"), nil, params)
 			outcomes, err = agent.Burst(&burst)
-			if err != nil || (outcomes[0].FiredQuery.Query != nil) != test.handed[i] {
+			if err != nil || (outcomes[0].FiredQuery.Query != nil) != test.wantHandedOut[i] {
 				t.Errorf("its own of %q, %v, in a burst: %v %v", test.filters, passes, outcomes, err)
 			}
 		}
-		received, err := agent.Receive(1, packet(), false)
-		if err != nil || (received.Query != nil) != test.handed[0] {
+		received, err := agent.Receive(1, firePacket(), false)
+		if err != nil || (received.Query != nil) != test.wantHandedOut[0] {
 			t.Errorf("%q, and nothing is said: %v %v", test.filters, received, err)
 		}
 	}

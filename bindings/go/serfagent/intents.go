@@ -5,24 +5,25 @@ import "C"
 
 // Intent is a join intent of a node, or a leave intent.
 type Intent struct {
-	// Time is the Lamport time, by the member clock of the node that sent the intent. 2^64 - 1 is not a time.
+	// Time is the Lamport time that the node which sent the intent took from its member clock. 2^64 - 1 is not a valid
+	// time.
 	Time uint64
 	// Node is the name of the node that joins or leaves.
 	Node []byte
 	// Leave is true for a leave intent.
 	Leave bool
-	// Prune is true if the members are to forget the node at once. Only leave intents can have it.
+	// Prune is true if the members should forget the node at once. Only leave intents can have it.
 	Prune bool
 }
 
-// IntentOf returns the intent of a packet, or nil if the packet is another message, whose content is not checked. No
-// agent is needed.
+// IntentOf returns the intent of a packet, or nil if the packet is another message. It doesn't check the content of
+// other messages. It needs no agent.
 //
-// The error is NoMessage if the packet is no message, or a faulty intent. IntentErrorOf returns the reason.
+// The error is NoMessage if the packet is not a message, or is a malformed intent. IntentErrorOf returns the reason.
 func IntentOf(packet []byte) (*Intent, error) {
 	var info C.struct_serf_agent_intent
 	var node []byte
-	// The first call returns the length, the second the name.
+	// The first call returns the length, and the second one the name.
 	for i := 0; i < 2; i++ {
 		node = make([]byte, info.node_len)
 		err := errorOf(C.serf_agent_intent(ptr(packet), size(packet), &info, ptr(node), size(node)))
@@ -36,10 +37,12 @@ func IntentOf(packet []byte) (*Intent, error) {
 	return &Intent{uint64(info.time), node, bool(info.leave), bool(info.prune)}, nil
 }
 
-// Packet returns the intent's packet, to send. No agent is needed. The error is Exhausted if the time is 2^64 - 1.
+// Packet returns the packet of the intent, which you can send. It needs no agent. The error is Exhausted if the time is
+// 2^64 - 1.
 func (i Intent) Packet() ([]byte, error) {
 	var length C.size_t
 	var packet []byte
+	// The first call returns the length, and the second one the packet.
 	for n := 0; n < 2; n++ {
 		packet = make([]byte, length)
 		var code C.uint32_t

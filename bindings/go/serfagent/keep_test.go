@@ -10,7 +10,7 @@ import (
 // otherEvents returns the packets of another agent's events e1, e2 and so on. The index is their Lamport time.
 func otherEvents(t *testing.T) [10][]byte {
 	var packets [10][]byte
-	other, _ := opened(t, "other")
+	other, _ := openTestAgent(t, "other")
 	for time := 1; time < len(packets); time++ {
 		_, packet, err := other.Fire([]byte(fmt.Sprint("e", time)), nil, false)
 		must(t, err)
@@ -28,8 +28,8 @@ func openKeeping(t *testing.T, path string, keeps bool) *Agent {
 	return agent
 }
 
-// runLife opens the agent on a file, hands it the events with these times, and ends as by a kill. It returns what the
-// agent did with each event, for example "3 new, 1 seen, 2 below".
+// runLife opens the agent on a file, passes it the events with these times, and ends it as a kill would. It returns the
+// agent's result for each event, for example "3 new, 1 seen, 2 below".
 func runLife(t *testing.T, path string, keeps bool, packets [10][]byte, times ...int) (result string) {
 	t.Helper()
 	agent := openKeeping(t, path, keeps)
@@ -49,8 +49,8 @@ func runLife(t *testing.T, path string, keeps bool, packets [10][]byte, times ..
 	return result
 }
 
-// After a kill the events that were handed out are known, and the others are handed out, even below the last clock
-// line.
+// After a kill, the agent still knows the events that it handed out. It hands out the others, even if their times are
+// below the last clock line.
 func TestRestartResumes(t *testing.T) {
 	packets, path := otherEvents(t), filepath.Join(t.TempDir(), "file")
 	if found := runLife(t, path, true, packets, 3, 1, 3); found != "3 new, 1 new, 3 seen" {
@@ -84,7 +84,7 @@ func TestRestartWithoutKeepEvents(t *testing.T) {
 	}
 }
 
-// An event's line that is incomplete doesn't count, so the event is handed out.
+// An incomplete line of an event doesn't count, so the agent hands out the event.
 func TestTornLine(t *testing.T) {
 	packets, path := otherEvents(t), filepath.Join(t.TempDir(), "file")
 	text := "event-clock: 03\n#event 3 6533 \nevent-clock: 05\n#event 5 65"

@@ -68,7 +68,7 @@ func TestLimitsOfQueriesAndResponses(t *testing.T) {
 
 // The error names the first setting that is out of its bounds. Each bound itself is accepted.
 func TestSettingsOutOfBounds(t *testing.T) {
-	with := func(field string, to uint64) (name string, settings Settings) {
+	settingsWith := func(field string, to uint64) (name string, settings Settings) {
 		settings = DefaultSettings()
 		if field == "name" {
 			return strings.Repeat("n", int(to)), settings
@@ -82,13 +82,13 @@ func TestSettingsOutOfBounds(t *testing.T) {
 	} {
 		for _, value := range []uint64{bound.Value, bound.Max + 1} {
 			want, found := SettingError{bound.Field, value, bound.Min, bound.Max}, &SettingError{}
-			name, settings := with(bound.Field, value)
+			name, settings := settingsWith(bound.Field, value)
 			if _, err := OpenInMemory(name, settings); !errors.Is(err, BadConfig) || !errors.As(err, &found) || *found != want {
 				t.Error(want, err)
 			}
 		}
 		for _, value := range []uint64{bound.Min, bound.Max} {
-			name, settings := with(bound.Field, value)
+			name, settings := settingsWith(bound.Field, value)
 			agent, err := OpenInMemory(name, settings)
 			if err != nil {
 				t.Fatal(bound.Field, value, err)
@@ -101,5 +101,23 @@ func TestSettingsOutOfBounds(t *testing.T) {
 	}
 	if _, err := OpenInMemory("", Settings{}); err == nil || err.Error() != "the name has 0 bytes, and must have 1 to 128" {
 		t.Error(err)
+	}
+}
+
+// A query without a timeout is open for DefaultQueryTimeout.
+func TestDefaultQueryTimeout(t *testing.T) {
+	agent, err := OpenInMemory("alpha", DefaultSettings())
+	if err != nil {
+		t.Fatal(err)
+	}
+	defer agent.Close()
+	if _, err := agent.Query(1, 7, []byte("q"), nil, QueryParams{}); err != nil {
+		t.Fatal(err)
+	}
+	if deadline, isOpen, err := agent.NextDeadline(); err != nil || !isOpen || deadline != 1+uint64(DefaultQueryTimeout) {
+		t.Error(deadline, isOpen, err)
+	}
+	if _, err := agent.Query(2, 8, []byte("q"), nil, QueryParams{Timeout: -1}); err == nil {
+		t.Error("a negative timeout is accepted")
 	}
 }

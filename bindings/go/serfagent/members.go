@@ -3,7 +3,7 @@ package serfagent
 // #include "serf_agent.h"
 import "C"
 
-// Members is what another agent's whole state says about members.
+// Members has the statuses of members that another agent's state contains.
 type Members struct {
 	// MemberClock is the sender's member clock.
 	MemberClock uint64
@@ -13,13 +13,13 @@ type Members struct {
 	Left []string
 }
 
-// MembersOf returns what a push/pull's packet says about members, or nil if the packet is not a push/pull. No agent is
-// needed. Merge handles the events of the same packet.
+// MembersOf returns the statuses of members in a push/pull's packet, or nil if the packet is not a push/pull. It needs
+// no agent. Merge handles the events of the same packet.
 func MembersOf(packet []byte) (*Members, error) {
 	var sizes C.struct_serf_agent_members
 	var members []C.struct_serf_agent_member
 	var names []byte
-	// The first call returns the sizes, the second the members.
+	// The first call returns the sizes, and the second one the members.
 	for i := 0; i < 2; i++ {
 		// One more, because C needs an address even if there are no members.
 		members, names = make([]C.struct_serf_agent_member, sizes.members+1), make([]byte, sizes.names_len)
@@ -51,7 +51,8 @@ type Status struct {
 	Time uint64
 }
 
-// forgetMembers discards the members of a state that failed, by making a state that is not read.
+// forgetMembers discards the members that were left when a call of LocalState failed. To do so, it makes the library
+// encode a state, and ignores that state.
 func (a *Agent) forgetMembers() error {
 	if !a.staleMembers {
 		return nil
@@ -59,8 +60,8 @@ func (a *Agent) forgetMembers() error {
 	return checkForgotten(C.serf_agent_local_state(a.handle))
 }
 
-// LocalState returns the packet with this agent's whole state, with the members' status times and the names of the
-// members that left.
+// LocalState returns the packet with this agent's whole state. The state includes the given status times of members and
+// the names of the members that left.
 func (a *Agent) LocalState(statuses []Status, left []string) ([]byte, error) {
 	a.mu.Lock()
 	defer a.mu.Unlock()
@@ -87,8 +88,8 @@ func (a *Agent) LocalState(statuses []Status, left []string) ([]byte, error) {
 	return a.packet(false)
 }
 
-// ObserveMember observes the Lamport time of a member's intent or status. After that the member clock is later than
-// this time.
+// ObserveMember passes the Lamport time of a member's intent or status to the agent. After that, the member clock is
+// later than this time.
 func (a *Agent) ObserveMember(time uint64) error {
 	a.mu.Lock()
 	defer a.mu.Unlock()

@@ -28,7 +28,7 @@ var packetErrorWords = []string{
 	"None", "Empty", "UnknownType", "Truncated", "Unsupported", "TooDeep", "Trailing", "NotAMap", "BadKey", "Twice", "WrongKind", "OutOfRange", "GreatestTime",
 }
 
-// String returns the word that a trace has for the error (docs/SPEC.md).
+// String returns the word that traces use for this kind of error (docs/SPEC.md).
 func (k PacketErrorKind) String() string {
 	return wordOf(packetErrorWords, "PacketErrorKind", uint32(k))
 }
@@ -36,26 +36,30 @@ func (k PacketErrorKind) String() string {
 // PacketError is the first error in a packet that is not a message.
 type PacketError struct {
 	Kind PacketErrorKind
-	// The offset of the error in bytes from the packet's first byte, which is its type; 0 if the error has no place.
+	// Offset is the position of the error in the packet, in bytes. The packet's first byte, its type, has offset 0. If
+	// the error has no position, Offset is 0 too.
 	Offset int
-	// The byte in question (ErrorUnknownType, ErrorUnsupported), else 0.
+	// Byte is the byte that is unknown (ErrorUnknownType) or unsupported (ErrorUnsupported), and 0 for other kinds.
 	Byte uint8
 }
 
-// PacketErrorOf returns why a packet is not a message. The second result is false if it is one. No agent is needed.
+// PacketErrorOf returns the reason why a packet is not a message. If the packet is a message, the second result is
+// false. PacketErrorOf needs no agent.
 func PacketErrorOf(packet []byte) (PacketError, bool) {
 	var found C.struct_serf_agent_packet_error
-	return packetError(C.serf_agent_packet_error(ptr(packet), size(packet), &found), &found)
+	return packetErrorFrom(C.serf_agent_packet_error(ptr(packet), size(packet), &found), &found)
 }
 
-// IntentErrorOf returns why IntentOf refuses a packet with NoMessage. The second result is false if it doesn't. No
-// agent is needed.
+// IntentErrorOf returns the reason why IntentOf refuses a packet with NoMessage. If IntentOf accepts the packet, the
+// second result is false. IntentErrorOf needs no agent.
 func IntentErrorOf(packet []byte) (PacketError, bool) {
 	var found C.struct_serf_agent_packet_error
-	return packetError(C.serf_agent_intent_error(ptr(packet), size(packet), &found), &found)
+	return packetErrorFrom(C.serf_agent_intent_error(ptr(packet), size(packet), &found), &found)
 }
 
-func packetError(code C.uint32_t, found *C.struct_serf_agent_packet_error) (PacketError, bool) {
+// packetErrorFrom converts the library's answer to a PacketError. The second result is false if the library found no
+// error.
+func packetErrorFrom(code C.uint32_t, found *C.struct_serf_agent_packet_error) (PacketError, bool) {
 	if code != C.SERF_AGENT_OK {
 		return PacketError{}, false
 	}

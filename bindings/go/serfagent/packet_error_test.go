@@ -50,7 +50,7 @@ func TestFaultyPackets(t *testing.T) {
 	}
 }
 
-func TestPacketsWithoutFault(t *testing.T) {
+func TestPacketsWithoutError(t *testing.T) {
 	sound := []string{"\x03\x80", "\x02\x81\xa5LTime\x07", "\x03\xde\x00\x01\xd9\x05LTime\xd0\x07", "\x00", "\x09\xc1"}
 	for _, packet := range sound {
 		if found, ok := PacketErrorOf([]byte(packet)); ok {

@@ -27,8 +27,12 @@ func (a *Agent) Query(now uint64, id uint32, name, payload []byte, params QueryP
 
 // toC converts the parameters to C.
 func (params *QueryParams) toC() C.struct_serf_agent_params {
+	timeout := params.Timeout
+	if timeout == 0 {
+		timeout = DefaultQueryTimeout
+	}
 	return C.struct_serf_agent_params{
-		timeout: C.int64_t(params.Timeout), port: C.uint16_t(params.Port), relay_factor: C.uint8_t(params.RelayFactor),
+		timeout: C.int64_t(timeout), port: C.uint16_t(params.Port), relay_factor: C.uint8_t(params.RelayFactor),
 		want_ack: C.bool(params.WantAck), no_broadcast: C.bool(params.NoBroadcast), tags_pass: C.bool(params.TagsPass),
 	}
 }
@@ -55,12 +59,14 @@ func (a *Agent) firedQuery() (*FiredQuery, error) {
 	return query, err
 }
 
+// pendingQuery returns the query that the last call handed out under this number, or nil if the number is 0.
 func (a *Agent) pendingQuery(number C.uint64_t) (*PendingQuery, error) {
 	if number == 0 {
 		return nil, nil
 	}
 	var info C.struct_serf_agent_pending_query
 	var name, payload, source, addr []byte
+	// The first call returns the lengths, and the second one the texts.
 	for i := 0; i < 2; i++ {
 		name, payload = make([]byte, info.name_len), make([]byte, info.payload_len)
 		source, addr = make([]byte, info.source_len), make([]byte, info.addr_len)
@@ -75,7 +81,8 @@ func (a *Agent) pendingQuery(number C.uint64_t) (*PendingQuery, error) {
 	}, nil
 }
 
-// forgetFilters discards the filters of a query that failed, by a query with no timeout, which is refused.
+// forgetFilters discards the filters that a failed query left. To do so, it fires a query without a timeout, which the
+// library refuses.
 func (a *Agent) forgetFilters() error {
 	if !a.staleFilters {
 		return nil
@@ -84,7 +91,8 @@ func (a *Agent) forgetFilters() error {
 	return checkForgotten(C.serf_agent_query(a.handle, 0, 0, ptr(nil), 0, ptr(nil), 0, ptr(nil), 0, &params))
 }
 
-// Respond answers a query that was handed out. It returns the packet to send to the query's address and port.
+// Respond answers a query that was handed out. It returns the packet of the response. Send it to the query's address
+// and port.
 func (a *Agent) Respond(now, number uint64, payload []byte) ([]byte, error) {
 	a.mu.Lock()
 	defer a.mu.Unlock()
@@ -94,15 +102,16 @@ func (a *Agent) Respond(now, number uint64, payload []byte) ([]byte, error) {
 	return a.packet(false)
 }
 
-// Forget forgets a query that was handed out and won't be answered. A query takes memory until it is answered or
-// forgotten, or until CloseDue finds that its deadline has passed.
+// Forget forgets a query that was handed out and that you won't answer. A query uses memory until you answer or forget
+// it, or until CloseDue finds that its deadline has passed.
 func (a *Agent) Forget(number uint64) error {
 	a.mu.Lock()
 	defer a.mu.Unlock()
 	return a.complete(C.serf_agent_forget_query(a.handle, C.uint64_t(number)))
 }
 
-// NextDeadline returns the earliest deadline of this agent's open queries. The second result is false if none is open.
+// NextDeadline returns the earliest deadline of this agent's open queries. The second result is false if no query is
+// open.
 func (a *Agent) NextDeadline() (uint64, bool, error) {
 	a.mu.Lock()
 	defer a.mu.Unlock()

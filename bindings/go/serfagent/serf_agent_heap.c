@@ -1,33 +1,35 @@
 /* The three memory functions that libserf_agent_c.a needs besides the C library. Rattle's toolchain has a library with them. This
- * file replaces it for a host that is built without that toolchain. */
+ * file replaces that library for a host that is built without the toolchain. */
 #include <stdbool.h>
 #include <stddef.h>
 #include <stdlib.h>
 
-struct tried {
+struct allocation_result {
     bool ok;
-    void *place;
+    void *address;
 };
 
-struct tried rattle_alloc(size_t size, size_t align);
-struct tried rattle_realloc(void *old, size_t kept, size_t size, size_t align);
-void rattle_dealloc(void *place);
+struct allocation_result rattle_alloc(size_t size, size_t align);
+struct allocation_result rattle_realloc(void *old, size_t kept, size_t size, size_t align);
+void rattle_dealloc(void *address);
 
-static char nothing;
+/* The address that is returned with ok = false, because the library expects one that isn't NULL. */
+static char no_memory;
 
-static struct tried tried(void *place) {
-    return (struct tried){place != NULL, place != NULL ? place : &nothing};
+/* Returns what the library expects for an address from malloc or realloc, which is NULL if there is no memory. */
+static struct allocation_result allocation_result(void *address) {
+    return (struct allocation_result){address != NULL, address != NULL ? address : &no_memory};
 }
 
-struct tried rattle_alloc(size_t size, size_t align) {
-    return tried(malloc(size != 0 ? size : align));
+struct allocation_result rattle_alloc(size_t size, size_t align) {
+    return allocation_result(malloc(size != 0 ? size : align));
 }
 
-struct tried rattle_realloc(void *old, size_t kept, size_t size, size_t align) {
+struct allocation_result rattle_realloc(void *old, size_t kept, size_t size, size_t align) {
     (void)kept;
-    return tried(realloc(old, size != 0 ? size : align));
+    return allocation_result(realloc(old, size != 0 ? size : align));
 }
 
-void rattle_dealloc(void *place) {
-    free(place);
+void rattle_dealloc(void *address) {
+    free(address);
 }

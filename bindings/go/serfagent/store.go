@@ -11,7 +11,8 @@ import (
 	"syscall"
 )
 
-// Why a snapshot's file can't be opened, read or written. Each error of a Store wraps one of these, for errors.Is.
+// These are the reasons why a snapshot's file can't be opened, read or written. Each error of a Store wraps one of
+// them, for use with errors.Is.
 var (
 	// ErrLocked: another store, in this process or another one, has locked the file.
 	ErrLocked = errors.New("another agent has the file")
@@ -29,32 +30,35 @@ var (
 	ErrFailed = errors.New("the system call failed")
 )
 
-// maxOpenTries is how often opening starts again because the file was replaced between its opening and its lock.
+// maxOpenTries is how often OpenStore tries again if the file was replaced after OpenStore opened it and before it
+// locked it.
 const maxOpenTries = 100
 
-// Store is the file of an agent's snapshot. It is locked, so only one store at a time has it open.
+// Store is the file of an agent's snapshot. The store locks the file, so only one store at a time has it open.
 //
-// The system releases the lock when the process ends, however it ends. A replacement writes FILE.new next to the file,
-// flushes it and renames it, so a crash leaves the old text or the new one. The next opening removes a FILE.new that a
-// crash left. After an error in an append or a replacement the store is broken: it accepts no more bytes until it, and
-// the agent with it, is opened again.
+// The system releases the lock when the process ends, however it ends. Replace writes FILE.new next to the file,
+// flushes it and renames it, so a crash leaves either the old text or the new one. If a crash leaves a FILE.new, the
+// next OpenStore removes it. After an error of an append or a replacement, the store is broken. It accepts no more
+// bytes: open a new store, and the agent on it, again.
 //
-// While a store is open, the file has filler after the text: one line of `#`, which new lines overwrite, so that a flush
-// takes less time (docs/HOST.md, "Filler"). Close removes it. After a kill it stays, and the next store uses it. Read returns the text without it.
+// While a store is open, the file has filler after the text: one line of `#`, which new lines overwrite, so that a
+// flush takes less time (docs/HOST.md, "Filler"). Close removes the filler. After a kill, the filler stays, and the
+// next store uses it. Read returns the text without filler.
 //
 // The Store is not proved. It is tested.
 type Store struct {
 	path     string
 	file     *os.File
 	isBroken bool
-	// The text has the first end bytes of the file, which has size bytes. What is in between is filler.
+	// The first end bytes of the file are the text. The file has size bytes, and the bytes from end to size are filler.
 	end, size int64
-	// filler is what is written after the text if it is prepared. isFull says that the disk had no room for it: it isn't tried again before
-	// the file is replaced.
+	// filler has the bytes that the store writes after the text when it prepares filler. isFull is true if the disk had
+	// no room for them; the store doesn't try again before the file is replaced.
 	filler []byte
 	isFull bool
 }
 
+// storeError adds the path and the store's reason to an error of the system. It returns nil for nil.
 func storeError(path string, err error) error {
 	if err == nil {
 		return nil
@@ -95,6 +99,7 @@ func realPath(path string) (string, error) {
 	return filepath.Join(folder, filepath.Base(absolute)), err
 }
 
+// syncFolder flushes the folder of a file, so that the file's name survives a power cut.
 func syncFolder(path string) error {
 	folder, err := os.Open(filepath.Dir(path))
 	if err != nil {
@@ -104,11 +109,12 @@ func syncFolder(path string) error {
 	return folder.Sync()
 }
 
+// lock locks a file, or returns EWOULDBLOCK if another program has locked it.
 func lock(file *os.File) error {
 	return syscall.Flock(int(file.Fd()), syscall.LOCK_EX|syscall.LOCK_NB)
 }
 
-// openOnce opens and locks the file. It returns nil if another file has its name by then.
+// openOnce opens and locks the file. It returns nil if the path names another file by then.
 func openOnce(path string) (*os.File, error) {
 	file, err := os.OpenFile(path, os.O_RDWR|os.O_CREATE|syscall.O_NOFOLLOW|syscall.O_NONBLOCK, 0600)
 	if err != nil {
@@ -131,6 +137,7 @@ func openOnce(path string) (*os.File, error) {
 	return nil, file.Close()
 }
 
+// openLocked opens and locks the file that the path names. It tries again if the file is replaced in the meantime.
 func openLocked(path string) (*os.File, error) {
 	for i := 0; i < maxOpenTries; i++ {
 		if file, err := openOnce(path); file != nil || err != nil {
@@ -140,7 +147,8 @@ func openLocked(path string) (*os.File, error) {
 	return nil, syscall.EWOULDBLOCK
 }
 
-// OpenStore opens or creates the file, and locks it. It follows a symbolic link to its file.
+// OpenStore opens or creates the file, and locks it. If the path is a symbolic link, OpenStore opens the file to which
+// it points.
 func OpenStore(path string) (*Store, error) {
 	resolved, err := realPath(path)
 	if err != nil {
@@ -153,7 +161,7 @@ func OpenStore(path string) (*Store, error) {
 	store := &Store{path: resolved, file: file, filler: fillerOf(fillerBytes)}
 	err = os.Remove(resolved + ".new")
 	if err == nil || errors.Is(err, os.ErrNotExist) {
-		err = store.findText()
+		err = store.findTextEnd()
 	}
 	if err == nil {
 		err = file.Sync()
@@ -168,7 +176,7 @@ func OpenStore(path string) (*Store, error) {
 	return store, nil
 }
 
-// Read returns the text, on which an agent is opened: the whole file without its filler.
+// Read returns the text on which an agent can be opened: the whole file without its filler.
 func (s *Store) Read() ([]byte, error) {
 	if s.file == nil {
 		return nil, fmt.Errorf("%s: %w", s.path, ErrBroken)
@@ -215,6 +223,8 @@ func (s *Store) Replace(data []byte) error {
 	})
 }
 
+// writeReplacement writes data to a temporary file, flushes it, and renames it to the store's path. It returns the
+// locked file.
 func (s *Store) writeReplacement(temporary string, data []byte) (*os.File, error) {
 	info, err := s.file.Stat()
 	if err != nil {

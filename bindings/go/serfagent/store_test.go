@@ -10,7 +10,7 @@ import (
 	"testing"
 )
 
-// openFiles returns how many files below a folder this process has open, also those that were removed.
+// openFiles returns how many files below a folder this process has open, including removed files.
 func openFiles(t *testing.T, folder string) (count int) {
 	t.Helper()
 	const handles = "/proc/self/fd"
@@ -19,7 +19,7 @@ func openFiles(t *testing.T, folder string) (count int) {
 		t.Skip(err)
 	}
 	for _, entry := range entries {
-		// (a handle may be closed by now, as that of the folder itself is)
+		// (a handle may have been closed since, such as the one through which the folder was listed)
 		if target, err := os.Readlink(filepath.Join(handles, entry.Name())); err == nil && strings.HasPrefix(target, folder+"/") {
 			count++
 		}
@@ -27,7 +27,7 @@ func openFiles(t *testing.T, folder string) (count int) {
 	return count
 }
 
-// A store has one file open, also after replacements and after openings of the same file that failed, and none after it is closed.
+// A store has one file open, even after replacements and after failed attempts to open the same file. After it is closed, it has none.
 func TestOpenFilesOfAStore(t *testing.T) {
 	folder := t.TempDir()
 	path := filepath.Join(folder, "file")
@@ -35,7 +35,7 @@ func TestOpenFilesOfAStore(t *testing.T) {
 	if err != nil {
 		t.Fatal(err)
 	}
-	// (Go closes a file that nobody can use any more, so nothing may be collected meanwhile)
+	// (Go's garbage collector closes files that nobody can use any more, so it must not run during this test)
 	for i := 0; i < 3; i++ {
 		if err := store.Replace([]byte("a\n")); err != nil {
 			t.Error(err)
@@ -52,7 +52,7 @@ func TestOpenFilesOfAStore(t *testing.T) {
 	}
 }
 
-// Each error of the system has its error of a store.
+// Each error of the system has a matching error of the store.
 func TestErrorsOfAStore(t *testing.T) {
 	for number, want := range map[syscall.Errno]error{
 		syscall.EWOULDBLOCK: ErrLocked, syscall.ENOENT: ErrMissingFolder, syscall.ENOTDIR: ErrMissingFolder, syscall.EISDIR: ErrNotAFile,

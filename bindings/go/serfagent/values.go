@@ -10,20 +10,22 @@ import (
 
 // Settings are an agent's settings. DefaultSettings returns Serf's.
 type Settings struct {
-	// How many Lamport times of events, and of queries, the buffers hold: 1 to 65,536.
+	// EventBuffer is how many Lamport times of events the agent remembers, and QueryBuffer how many of queries: 1 to
+	// 65,536 each.
 	EventBuffer, QueryBuffer uint64
-	// The maximum size of a fired event in bytes, at most 9,216.
+	// EventLimit is the maximum size of a fired event in bytes. It is at most 9,216.
 	EventLimit uint64
-	// The maximum size in bytes of a fired query's packet, and of a response's: at most 9,216; 0 stands for 1,024.
+	// QueryLimit is the maximum size in bytes of a fired query's packet, and ResponseLimit that of a response's packet.
+	// Each is at most 9,216, and 0 means 1,024.
 	QueryLimit, ResponseLimit uint64
-	// How many names are counted among a query's acks, and among its responses; and how many events, or queries, are
-	// accepted with the same Lamport time: 1 to 65,536.
+	// Responders is how many acks, and how many responses, the agent counts for one query. PerTime is how many events,
+	// or queries, it accepts with the same Lamport time. Each is 1 to 65,536.
 	Responders, PerTime uint64
-	// Whether a join ignores the events from before it.
+	// IgnoreOld makes a join ignore the events that were fired before it.
 	IgnoreOld bool
-	// Whether the file keeps events and queries, so that a restart resumes with those that the buffers held. Events
-	// that the node missed are then handed out after a restart, as long as the buffer reaches back to them. A join with
-	// IgnoreOld drops them.
+	// KeepEvents makes the file keep events and queries, so that a restart resumes with the events and queries that the
+	// buffers had. After a restart, the agent then hands out events that the node missed, as long as the buffer reaches
+	// back to their times. A join with IgnoreOld drops these events.
 	KeepEvents bool
 }
 
@@ -50,7 +52,8 @@ func (e *SettingError) Error() string {
 
 func (e *SettingError) Unwrap() error { return BadConfig }
 
-// settingError returns the first setting that is out of the header's bounds, which is the one that the library refused.
+// settingError returns the first setting that is out of the bounds in the header. It is the setting that the library
+// refused.
 func (s *Settings) settingError(name string) error {
 	const maxCount, maxLength = 1 << 16, 9216
 	for _, setting := range []SettingError{
@@ -72,23 +75,23 @@ type Event struct {
 	Coalesce      bool
 }
 
-// PendingQuery is a query that is handed out. Run its handler, and answer by Respond with its number.
+// PendingQuery is a query that is handed out. Run its handler, and answer it by calling Respond with its Number.
 type PendingQuery struct {
 	Number, Time  uint64
 	ID            uint32
 	Name, Payload []byte
-	// The name of the node that fired the query, and the address to which a response is sent.
+	// Source is the name of the node that fired the query. Addr and Port are the address to which responses are sent.
 	Source, Addr []byte
 	Port         uint16
 	RelayFactor  uint8
-	// The last moment at which the query can be answered.
+	// Deadline is the last moment at which the query can be answered.
 	Deadline uint64
 }
 
-// Kind is what a received packet was.
+// Kind is the kind of a received packet.
 type Kind uint32
 
-// What a received packet can be.
+// These are the kinds of received packets.
 const (
 	NewEvent Kind = C.SERF_AGENT_RESULT_EVENT
 	NewQuery Kind = C.SERF_AGENT_RESULT_QUERY
@@ -111,10 +114,10 @@ func wordOf(words []string, kind string, number uint32) string {
 	return fmt.Sprintf("%s %d", kind, number)
 }
 
-// Reason is why a packet was ignored.
+// Reason is the reason why a packet was ignored.
 type Reason uint32
 
-// Why a packet can be ignored. If a packet was accepted, its reason is 0.
+// These are the reasons why a packet can be ignored. If a packet was accepted, its reason is 0.
 const (
 	Oversize        Reason = C.SERF_AGENT_OVERSIZE
 	BelowMinimum    Reason = C.SERF_AGENT_BELOW_MINIMUM
@@ -133,11 +136,11 @@ var reasonWords = []string{
 	"None", "Oversize", "BelowMinimum", "TooOld", "Seen", "TimeFull", "NotOpen", "OtherId", "Closed", "AckNotAsked", "AckTwice", "ResponseTwice",
 }
 
-// String returns the word that a trace has for the reason (docs/SPEC.md).
+// String returns the word that traces use for the reason (docs/SPEC.md).
 func (r Reason) String() string { return wordOf(reasonWords, "Reason", uint32(r)) }
 
-// Answer is an ack or a response that was counted: the Lamport time and ID of its query, the node that sent it, and a
-// response's payload.
+// Answer is an ack or a response that was counted. It has the Lamport time and the ID of its query, the name of the
+// node that sent it, and the payload if it is a response.
 type Answer struct {
 	Time          uint64
 	ID            uint32
@@ -156,8 +159,12 @@ type Received struct {
 	Foreign     uint8
 }
 
-// QueryParams are how a query is fired. Timeout is how long answers are accepted. Addr and Port are where they are
-// sent.
+// DefaultQueryTimeout is how long a query accepts answers if its Timeout is 0. It is Serf's timeout in a cluster of 10 to
+// 99 nodes: 16 gossip intervals of 0.2 seconds for each digit of the number of nodes.
+const DefaultQueryTimeout = 6400 * time.Millisecond
+
+// QueryParams are the parameters of a query to fire. Timeout is how long the agent accepts answers; 0 means
+// DefaultQueryTimeout. Addr and Port are the address to which answers are sent.
 type QueryParams struct {
 	Timeout              time.Duration
 	Addr                 []byte
@@ -170,8 +177,8 @@ type QueryParams struct {
 	Filters  [][]byte
 }
 
-// FiredQuery is a query that was fired: the packet to send; if the query is handed out on this node, the query and this
-// node's own ack; and the query's Lamport time, which is in each Answer to it.
+// FiredQuery is a query that was fired. It has the packet to send, and the query's Lamport time, which is also in each
+// Answer to the query. If the query is handed out on this node, it also has the PendingQuery and this node's own ack.
 type FiredQuery struct {
 	Packet []byte
 	Query  *PendingQuery

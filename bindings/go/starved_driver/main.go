@@ -1,4 +1,4 @@
-// Calls that may run out of memory. tests/library/embed/starved_driver.c describes the output.
+// This program makes calls that may run out of memory. tests/library/embed/starved_driver.c describes its output.
 package main
 
 import (
@@ -10,19 +10,22 @@ import (
 	"kitchenrue.example/serfagent"
 )
 
+// check ends the program if err isn't nil.
 func check(err error) {
 	if err != nil {
 		log.Fatal(err)
 	}
 }
 
+// open opens an agent on its snapshot in the program's folder.
 func open(name string) *serfagent.Agent {
 	agent, err := serfagent.Open(name, filepath.Join(os.Args[1], name+".snapshot"), serfagent.DefaultSettings())
 	check(err)
 	return agent
 }
 
-func merge(agent *serfagent.Agent, state []byte) {
+// printMerge merges a state, and prints the events and the result.
+func printMerge(agent *serfagent.Agent, state []byte) {
 	events, err := agent.Merge(state, false)
 	result := "ok"
 	if err == serfagent.OutOfMemory {
@@ -36,6 +39,7 @@ func merge(agent *serfagent.Agent, state []byte) {
 	fmt.Println(result)
 }
 
+// printResult prints the packet of a call, or that the call ran out of memory.
 func printResult(kind string, packet []byte, err error) {
 	if err == serfagent.OutOfMemory {
 		fmt.Println(kind, "refused")
@@ -45,7 +49,8 @@ func printResult(kind string, packet []byte, err error) {
 	fmt.Printf("%s %x\n", kind, packet)
 }
 
-func query(agent *serfagent.Agent, letter string) {
+// printQuery fires a query with two filters, and prints its packet.
+func printQuery(agent *serfagent.Agent, letter string) {
 	params := serfagent.QueryParams{Timeout: 9}
 	for number := 1; number <= 2; number++ {
 		params.Filters = append(params.Filters, []byte(fmt.Sprintf("\x00\x91\xa7node-%s%d", letter, number)))
@@ -57,7 +62,8 @@ func query(agent *serfagent.Agent, letter string) {
 	printResult("query", query.Packet, err)
 }
 
-func state(agent *serfagent.Agent, letter string) {
+// printState prints the agent's state with the statuses of two members.
+func printState(agent *serfagent.Agent, letter string) {
 	first, second := "node-"+letter+"1", "node-"+letter+"2"
 	packet, err := agent.LocalState([]serfagent.Status{{Name: first, Time: 3}, {Name: second, Time: 4}}, []string{second})
 	printResult("state", packet, err)
@@ -77,15 +83,15 @@ func main() {
 	load, err := sender.Query(1, 8, []byte("load"), nil, serfagent.QueryParams{Timeout: 9})
 	check(err)
 	receiver := open("other")
-	merge(receiver, wholeState)
-	merge(receiver, wholeState)
-	query(receiver, "a")
+	printMerge(receiver, wholeState)
+	printMerge(receiver, wholeState)
+	printQuery(receiver, "a")
 	_, err = receiver.Receive(1, load.Packet, false)
 	check(err)
-	query(receiver, "b")
-	query(receiver, "c")
+	printQuery(receiver, "b")
+	printQuery(receiver, "c")
 	for _, letter := range []string{"a", "b", "c"} {
-		state(receiver, letter)
+		printState(receiver, letter)
 	}
 	check(receiver.Close())
 	check(sender.Close())

@@ -1,4 +1,5 @@
-// Runs the commands for a store that it reads line by line. tests/library/embed/store_driver.c describes them.
+// This program reads commands for a store, one on each line, and runs them. tests/library/embed/store_driver.c
+// describes the commands.
 package main
 
 import (
@@ -23,6 +24,7 @@ var errorNames = map[error]string{
 	serfagent.ErrBroken:        "Broken",
 }
 
+// nameOf returns the name that the output has for an error of a store.
 func nameOf(err error) string {
 	for kind, name := range errorNames {
 		if errors.Is(err, kind) {
@@ -32,7 +34,8 @@ func nameOf(err error) string {
 	return "Failed"
 }
 
-func call(store **serfagent.Store, command, word string) (text string, err error) {
+// runCommand runs a command on a store, and returns what to print before the result.
+func runCommand(store **serfagent.Store, command, word string) (text string, err error) {
 	if command == "open" {
 		if *store != nil {
 			(*store).Close()
@@ -73,7 +76,7 @@ func main() {
 			number, line = 1, line[2:]
 		}
 		words := strings.SplitN(line+" ", " ", 2)
-		text, err := call(&stores[number], words[0], strings.TrimSuffix(words[1], " "))
+		text, err := runCommand(&stores[number], words[0], strings.TrimSuffix(words[1], " "))
 		if err != nil {
 			text = nameOf(err)
 		} else {

@@ -1,4 +1,7 @@
-"""The proved Serf agent, through ctypes: an ``Agent`` keeps its snapshot in a file. docs/HOST.md says what to call when."""
+"""The proved Serf agent, called through ctypes.
+
+An ``Agent`` keeps its snapshot in a file. docs/HOST.md says what to call when.
+"""
 
 from .agent import Agent, Forked
 from .burst import Burst, CallOutcome

@@ -16,17 +16,19 @@ from . import Agent, Event, Ignored, NotLoaded, ReceivedEvent, ReceivedQuery, St
 
 
 def handle(agent: str, events: Iterable[Event]) -> None:
-    """The handler of events: it prints them."""
+    """The handler of events. It prints them."""
     for event in events:
         print(f"{agent} handed out {event.name.decode()} {event.payload.decode()} at {event.time}")
 
 
-def join(names: List[str], agents: List[Agent], one: int, other: int) -> None:
-    handle(names[one], agents[one].merge(agents[other].local_state(), join=True))
-    print(f"{names[one]} joined {names[other]}")
+def join(names: List[str], agents: List[Agent], joiner: int, other: int) -> None:
+    """One agent merges the state of the other, as in a join, and handles the events."""
+    handle(names[joiner], agents[joiner].merge(agents[other].local_state(), join=True))
+    print(f"{names[joiner]} joined {names[other]}")
 
 
 def deliver(name: str, agent: Agent, now: int, packet: bytes) -> None:
+    """Passes a packet to an agent, and handles the event that it hands out."""
     received = agent.receive(now, packet)
     if isinstance(received, ReceivedEvent):
         handle(name, [received.event])
@@ -35,17 +37,18 @@ def deliver(name: str, agent: Agent, now: int, packet: bytes) -> None:
 
 
 def fire(name: str, agent: Agent, event: bytes, payload: bytes) -> bytes:
+    """Fires an event, handles it here, and returns its packet."""
     fired = agent.fire(event, payload)
     handle(name, [fired.event])
     return fired.packet
 
 
-def ask(one: Agent, other: Agent, now: int, name: bytes, answer: bytes) -> None:
+def ask(querier: Agent, answerer: Agent, now: int, name: bytes, answer: bytes) -> None:
     """One agent fires a query, and the other acks and answers it."""
-    received = other.receive(now, one.query(now, 7, name, timeout=1000, want_ack=True).packet)
+    received = answerer.receive(now, querier.query(now, 7, name, timeout=1000, want_ack=True).packet)
     if isinstance(received, ReceivedQuery) and received.query and received.ack:
-        one.receive(now, received.ack)
-        one.receive(now, other.respond(now, received.query.number, answer))
+        querier.receive(now, received.ack)
+        querier.receive(now, answerer.respond(now, received.query.number, answer))
 
 
 def close_due(name: str, agent: Agent, now: int) -> None:
@@ -68,7 +71,7 @@ def run(folder: str) -> None:
             packet = fire("alpha", alpha, b"deploy", b"v1.2")
             deliver("beta", beta, 1, packet)
             deliver("beta", beta, 2, packet)
-        # beta has crashed: nothing is left of it but its file
+        # beta has crashed: only its file is left
         with Agent(b"beta", paths[1]) as beta:
             print(f"beta crashed, and is back at {beta.clocks().event}")
             deliver("beta", beta, 3, packet)

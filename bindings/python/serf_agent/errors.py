@@ -7,11 +7,13 @@ from .results import Event
 
 
 class AgentError(Exception):
-    """A call was refused with this code, and has changed nothing, except that a merge without memory keeps what it accepted.
+    """The library refused a call with this code.
 
-    ``events`` has the events that the merge accepted. Run their handlers, since no later merge hands them out again. If a packet
-    is refused with ``Code.NO_MESSAGE``, ``packet_error`` returns the reason. With ``Code.BAD_CONFIG`` the message names the
-    setting.
+    The call changed nothing, but a merge without memory keeps what it accepted.
+
+    ``events`` has the events that a merge accepted before its error. Run their handlers, since no later merge hands
+    them out again. If a packet is refused with ``Code.NO_MESSAGE``, ``packet_error`` returns the reason. With
+    ``Code.BAD_CONFIG`` the message names the setting.
     """
 
     def __init__(self, code: int, events: Iterable[Event] = (), said: str = "") -> None:

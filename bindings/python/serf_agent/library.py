@@ -8,12 +8,15 @@ from ctypes import POINTER, Structure, c_bool, c_int64, c_size_t, c_uint8, c_uin
 from typing import Any, Callable, Dict, List, Optional
 
 HERE = os.path.dirname(os.path.abspath(__file__))
-OF_WHEEL = os.path.join(HERE, "libserf_agent.so")
-OF_CLONE = os.path.join(HERE, "..", "..", "c", "out", "libserf_agent.so")
+WHEEL_LIBRARY = os.path.join(HERE, "libserf_agent.so")
+CLONE_LIBRARY = os.path.join(HERE, "..", "..", "c", "out", "libserf_agent.so")
+
+# The processors of a library, by the bytes at 18 of its file.
+PROCESSORS = {b"\x3e\x00": "x86_64", b"\xb7\x00": "aarch64"}
 
 
 class Code(enum.IntEnum):
-    """What a call of the library returns."""
+    """The code that a call of the library returns."""
 
     OK = 0
     EMPTY = 1
@@ -36,12 +39,12 @@ class Code(enum.IntEnum):
 
     @property
     def text(self) -> str:
-        """The code as a sentence, without its full stop."""
+        """Returns the code as a sentence without a full stop."""
         return CODE_TEXTS[self]
 
 
 class Kind(enum.IntEnum):
-    """What the result of a call is."""
+    """The kind of a call's result."""
 
     NOTHING = 0
     EVENT = 1
@@ -77,7 +80,7 @@ class Reason(enum.IntEnum):
 
     @property
     def text(self) -> str:
-        """The reason as a sentence, without its full stop."""
+        """Returns the reason as a sentence without a full stop."""
         return REASON_TEXTS[self]
 
 
@@ -257,7 +260,7 @@ HANDLE = POINTER(Handle)
 DATA = c_void_p
 TEXT = [DATA, c_size_t]
 
-# The types of the functions' arguments, by the names without "serf_agent_". Each function returns a code.
+# The types of each function's arguments. The function's name has no "serf_agent_" here. Each function returns a code.
 FUNCTIONS: Dict[str, List[Any]] = {
     "open": [HANDLE, *TEXT, POINTER(CSettings), *TEXT],
     "close": [HANDLE],
@@ -315,36 +318,55 @@ class NotLoaded(OSError):
     """The shared library doesn't exist, or this system can't load it."""
 
 
-def found_at() -> str:
-    """The path of the shared library: the one in ``SERF_AGENT_LIBRARY``, the wheel's, or the one in a clone's bindings/c/out."""
-    named = os.environ.get("SERF_AGENT_LIBRARY")
-    if named:
-        return named
-    for path in (OF_WHEEL, OF_CLONE):
+def library_path() -> str:
+    """Returns the library's path: that in ``SERF_AGENT_LIBRARY``, the wheel's, or that in a clone's bindings/c/out."""
+    path_in_environment = os.environ.get("SERF_AGENT_LIBRARY")
+    if path_in_environment:
+        return path_in_environment
+    for path in (WHEEL_LIBRARY, CLONE_LIBRARY):
         if os.path.exists(path):
             return path
     raise NotLoaded("serf_agent: there is no libserf_agent.so in the package: install the wheel, or set SERF_AGENT_LIBRARY to the library")
 
 
-def loaded(path: str) -> ctypes.CDLL:
+def remedy(path: str, error: str) -> str:
+    """Returns what to do if a library can't be loaded, or an empty text."""
+    try:
+        with open(path, "rb") as file:
+            own = PROCESSORS.get(file.read(20)[18:])
+    except OSError:
+        return ""
+    machine = platform.machine()
+    if own is not None and own != machine:
+        return f"; it is for {own}, and this processor is {machine}: install the wheel that ends with _{machine}.whl"
+    if "GLIBC_" in error:
+        return "; the C library of this system is older than the one that it was linked with: install the source package, serf_agent-VERSION.tar.gz, which links it here"
+    if path == WHEEL_LIBRARY:
+        return "; if this system has another C library than glibc, install the source package, serf_agent-VERSION.tar.gz, which links it here"
+    return ""
+
+
+def load_library(path: str) -> ctypes.CDLL:
     """Loads the shared library at a path."""
     system, machine = platform.system(), platform.machine()
     if system != "Linux" or machine not in ("x86_64", "aarch64"):
-        raise NotLoaded(f"serf_agent: the library is for Linux on x86-64 or aarch64, and this system is {system} on {machine}")
+        raise NotLoaded(f"serf_agent: the library is for Linux on x86-64 or aarch64, and this system is {system} on {machine}: install it in a machine or a container of that kind")
     try:
         return ctypes.CDLL(path)
     except OSError as error:
-        old = "; the C library of this system is older than the one that it was linked with" if "GLIBC_" in str(error) else ""
-        raise NotLoaded(f"serf_agent: the library can't be loaded: {error}{old}") from error
+        raise NotLoaded(f"serf_agent: the library can't be loaded: {error}{remedy(path, str(error))}") from error
 
 
 class Library:
-    """The shared library's functions, with their types. Other threads run during a call. If it can't be loaded: ``NotLoaded``."""
+    """The shared library's functions, with their types.
+
+    Other threads run during a call. A failed load raises ``NotLoaded``.
+    """
 
     def __init__(self, path: Optional[str] = None) -> None:
-        found = loaded(path or found_at())
+        shared = load_library(path or library_path())
         for name, types in FUNCTIONS.items():
-            function = getattr(found, "serf_agent_" + name)
+            function = getattr(shared, "serf_agent_" + name)
             function.argtypes, function.restype = types, c_uint32
             setattr(self, name, function)
 

@@ -4,14 +4,17 @@ import ctypes
 from dataclasses import dataclass
 from typing import Optional, Tuple
 
-from .checks import Buffer, texts
+from .checks import Buffer, text_arguments
 from .errors import AgentError
 from .library import CMember, CMembers, Code, Library
 
 
 @dataclass(frozen=True)
 class Members:
-    """What a push/pull says about members: the sender's member clock, names with their status times, and the names that left."""
+    """What a push/pull reports about members.
+
+    It has the sender's member clock, the members' names with their status times, and the names of those that left.
+    """
 
     member_clock: int
     statuses: Tuple[Tuple[bytes, int], ...]
@@ -19,26 +22,28 @@ class Members:
 
 
 def state_members(packet: Buffer, library: Optional[Library] = None) -> Optional[Members]:
-    """Returns what a push/pull's packet says about members, or None if the packet is not a push/pull. No agent is needed.
+    """Returns what a push/pull's packet reports about members, or None if the packet is not a push/pull.
+
+    No agent is needed.
 
     ``Agent.merge`` handles the events of the same packet.
     """
     library = library or Library()
-    all, named, names = CMembers(), (CMember * 0)(), ctypes.create_string_buffer(0)
+    summary, c_members, names = CMembers(), (CMember * 0)(), ctypes.create_string_buffer(0)
     # The first call returns the sizes, the second the members.
     for _ in range(2):
-        named, names = (CMember * all.members)(), ctypes.create_string_buffer(all.names_len)
-        code = library.state_members(*texts(packet=packet), all, named, len(named), names, len(names))
+        c_members, names = (CMember * summary.members)(), ctypes.create_string_buffer(summary.names_len)
+        code = library.state_members(*text_arguments(packet=packet), summary, c_members, len(c_members), names, len(names))
         if code == Code.NOTHING:
             return None
         if code != Code.OK:
             raise AgentError(code)
-    statuses, left, at = [], [], 0
-    for one in named:
-        name = names.raw[at : at + one.name_len]
-        at += one.name_len
-        if one.left:
+    statuses, left, offset = [], [], 0
+    for c_member in c_members:
+        name = names.raw[offset : offset + c_member.name_len]
+        offset += c_member.name_len
+        if c_member.left:
             left.append(name)
         else:
-            statuses.append((name, one.status_time))
-    return Members(all.member_clock, tuple(statuses), tuple(left))
+            statuses.append((name, c_member.status_time))
+    return Members(summary.member_clock, tuple(statuses), tuple(left))

@@ -25,7 +25,8 @@ WORDS = {
 class PacketError:
     """The first error in a packet that is not a message. ``offset`` is in bytes from the packet's first byte, which is its type.
 
-    ``offset`` is 0 if it has no place. ``byte`` is the byte in question (``UNKNOWN_TYPE``, ``UNSUPPORTED``), else 0.
+    ``offset`` is 0 if the error has no offset. If the kind is ``UNKNOWN_TYPE`` or ``UNSUPPORTED``,
+    ``byte`` is the byte in question, otherwise it is 0.
     """
 
     kind: PacketErrorKind
@@ -37,10 +38,10 @@ class PacketError:
 
 
 def read_error(getter: Callable[..., int], packet: Union[bytes, bytearray, memoryview]) -> Optional[PacketError]:
-    """Returns what a getter of the library finds wrong with a packet, or None."""
-    found = CPacketError()
-    code = getter(bytes(packet), len(packet), found)
-    return PacketError(PacketErrorKind(found.kind), found.offset, found.byte) if code == Code.OK else None
+    """Returns the error that a function of the library finds in a packet, or None."""
+    c_error = CPacketError()
+    code = getter(bytes(packet), len(packet), c_error)
+    return PacketError(PacketErrorKind(c_error.kind), c_error.offset, c_error.byte) if code == Code.OK else None
 
 
 def packet_error(packet: Union[bytes, bytearray, memoryview], library: Optional[Library] = None) -> Optional[PacketError]:

@@ -18,7 +18,10 @@ class Event:
 
 @dataclass(frozen=True)
 class PendingQuery:
-    """A query that is handed out. Run its handler, and until ``deadline`` answer by ``Agent.respond`` with its number."""
+    """A query that is handed out.
+
+    Run its handler, and answer by ``Agent.respond`` with its number until ``deadline``.
+    """
 
     number: int
     time: int
@@ -54,8 +57,8 @@ class ReceivedEvent:
 class ReceivedQuery:
     """A new query. ``query`` is for its handler, and is None if a filter excludes this node.
 
-    ``ack`` is this node's own ack, to send to the query's address and port. It is None if the query requests none, or isn't
-    handed out here.
+    ``ack`` is this node's own ack, to send to the query's address and port. It is None if the query requests no acks or
+    isn't handed out here.
     """
 
     query: Optional[PendingQuery]
@@ -65,7 +68,7 @@ class ReceivedQuery:
 
 @dataclass(frozen=True)
 class ReceivedAck:
-    """An ack of a query of this node, which was counted. Its payload is empty."""
+    """An ack of this node's own query. The ack was counted. Its payload is empty."""
 
     answer: Answer
     rebroadcast: bool
@@ -73,7 +76,7 @@ class ReceivedAck:
 
 @dataclass(frozen=True)
 class ReceivedResponse:
-    """A response to a query of this node, which was counted."""
+    """A response to this node's own query. The response was counted."""
 
     answer: Answer
     rebroadcast: bool
@@ -96,19 +99,20 @@ class Ignored:
 
 @dataclass(frozen=True)
 class Foreign:
-    """A message of a type that the agent doesn't read, for example an intent, which ``intent`` reads."""
+    """A message of a type that the agent doesn't read. An example is an intent, which the function ``intent`` reads."""
 
     message_type: int
     rebroadcast: bool
 
 
-# The result of a received packet. Each class has `rebroadcast`: if it is True, send the packet on unchanged.
+# The result of a received packet. In each class, `rebroadcast` is True if the packet has to be sent unchanged to other
+# nodes.
 Received = Union[ReceivedEvent, ReceivedQuery, ReceivedAck, ReceivedResponse, ReceivedPushPull, Ignored, Foreign]
 
 
 @dataclass(frozen=True)
 class Fired:
-    """An event as it is handed out on this node, and the packet to send."""
+    """An event that was fired and is handed out on this node, and the packet to send."""
 
     event: Event
     packet: bytes
@@ -116,7 +120,7 @@ class Fired:
 
 @dataclass(frozen=True)
 class FiredQuery:
-    """A query that was fired: the packet to send; if it is handed out here, the query and this node's ack; and the query's time."""
+    """A query that was fired: its time, the packet to send and, if handed out here, the query and this node's ack."""
 
     packet: bytes
     query: Optional[PendingQuery]

@@ -14,13 +14,15 @@ NAME_BOUNDS = (1, 128)
 class Settings:
     """An agent's settings. The default values are Serf's.
 
-    ``event_buffer`` and ``query_buffer`` are how many Lamport times of events, and of queries, the buffers hold: 1 to 65,536.
+    ``event_buffer`` is the number of Lamport times of events that the buffer holds, and ``query_buffer`` the number of
+    Lamport times of queries: 1 to 65,536.
 
     ``event_limit``, ``query_limit`` and ``response_limit`` are the maximum sizes in bytes of a fired event, of a fired query's
     packet, and of a response's packet: at most 9,216. For the last two, 0 stands for 1,024.
 
-    ``responders`` is how many names are counted among a query's acks, and among its responses. ``per_time`` is how many events,
-    or queries, are accepted with the same Lamport time. Both are 1 to 65,536.
+    ``responders`` is the maximum number of names that are counted among a query's acks, and among its responses.
+    ``per_time`` is the maximum number of events, and of queries, that are accepted with the same Lamport time. Both are
+    1 to 65,536.
 
     With ``ignore_old`` a join ignores the events from before it. With ``keep_events`` the file keeps events and queries, so that
     a restart resumes with those that the buffers held.
@@ -38,7 +40,7 @@ class Settings:
 
 
 def out_of_bounds(name: bytes, settings: Settings) -> str:
-    """Describes the first that is out of its bounds: the node's name, or a setting. It is empty if none is."""
+    """Describes the node's name or the first setting that is out of its bounds. Returns an empty text if none is."""
     if not NAME_BOUNDS[0] <= len(name) <= NAME_BOUNDS[1]:
         return f"the name has {len(name)} bytes, and must have {NAME_BOUNDS[0]} to {NAME_BOUNDS[1]}"
     for field, (minimum, maximum) in BOUNDS.items():

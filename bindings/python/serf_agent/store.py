@@ -11,11 +11,11 @@ from typing import Dict, Iterator, List, Optional, Type, Union
 # The types of a file's path.
 Path = Union[str, bytes, "os.PathLike[str]", "os.PathLike[bytes]"]
 
-# A descriptor's number after the file was closed.
+# The number of the descriptor after the file was closed.
 CLOSED = -1
 
-# How often opening starts again because the file was replaced between its opening and its lock.
-TRIES = 100
+# The maximum number of attempts to open the file, if it is replaced each time after its opening and before its lock.
+MAX_ATTEMPTS = 100
 
 
 class StoreError(Exception):
@@ -53,7 +53,7 @@ class Broken(StoreError):
     """An earlier call failed, or the store is closed."""
 
 
-FAULTS: Dict[int, Type[StoreError]] = {
+ERRORS_BY_NUMBER: Dict[int, Type[StoreError]] = {
     errno.ENOENT: MissingFolder,
     errno.ENOTDIR: MissingFolder,
     errno.EISDIR: NotAFile,
@@ -68,21 +68,21 @@ FAULTS: Dict[int, Type[StoreError]] = {
 }
 
 
-def owner_of(path: str, locks: str = "/proc/locks") -> Optional[int]:
-    """The process that locked a file by flock, as the system's list of locks shows it, or None."""
+def lock_owner(path: str, lock_list: str = "/proc/locks") -> Optional[int]:
+    """Returns the process that locked a file by flock, according to the system's list of locks, or None."""
     try:
-        own = os.stat(path)
-        with open(locks, encoding="ascii") as file:
+        status = os.stat(path)
+        with open(lock_list, encoding="ascii") as file:
             lines = [line.split() for line in file]
     except OSError:
         return None
-    place = f"{os.major(own.st_dev):02x}:{os.minor(own.st_dev):02x}:{own.st_ino}"
-    return next((int(words[4]) for words in lines if words[1:2] == ["FLOCK"] and words[5:6] == [place]), None)
+    file_id = f"{os.major(status.st_dev):02x}:{os.minor(status.st_dev):02x}:{status.st_ino}"
+    return next((int(words[4]) for words in lines if words[1:2] == ["FLOCK"] and words[5:6] == [file_id]), None)
 
 
-def locked(path: str) -> Locked:
-    """The error for a file that another store has locked."""
-    pid = owner_of(path)
+def locked_error(path: str) -> Locked:
+    """Returns the error for a file that another store has locked."""
+    pid = lock_owner(path)
     if pid is None:
         return Locked(f"{path}: another agent has the file; /proc/locks doesn't show in which process")
     where = "in this process" if pid == os.getpid() else f"in process {pid}"
@@ -90,24 +90,28 @@ def locked(path: str) -> Locked:
 
 
 @contextlib.contextmanager
-def named(path: str) -> Iterator[None]:
-    """Turns the system's error into the ``StoreError`` for it."""
+def converted_errors(path: str) -> Iterator[None]:
+    """Converts the system's error to a ``StoreError``."""
     try:
         yield
     except BlockingIOError as error:
-        raise locked(path) from error
+        raise locked_error(path) from error
     except OSError as error:
-        raise FAULTS.get(error.errno or 0, StoreError)(f"{path}: {error.strerror}") from error
+        raise ERRORS_BY_NUMBER.get(error.errno or 0, StoreError)(f"{path}: {error.strerror}") from error
 
 
 def real_path(path: str) -> str:
-    """The path without symbolic links. If the file doesn't exist, its folder's links are resolved."""
+    """Returns the path without symbolic links.
+
+    If the file doesn't exist, only the links in its folder's path are resolved.
+    """
     if os.path.exists(path):
         return os.path.realpath(path)
     return os.path.join(os.path.realpath(os.path.dirname(path)), os.path.basename(path))
 
 
 def write_all(file: int, data: bytes) -> None:
+    """Writes all of these bytes to the file, in several calls if necessary."""
     view = memoryview(data)
     while view:
         view = view[os.write(file, view) :]
@@ -117,13 +121,13 @@ def write_all(file: int, data: bytes) -> None:
 STORES: "weakref.WeakSet[Store]" = weakref.WeakSet()
 
 
-def close_all() -> None:
+def close_all_stores() -> None:
     """Closes a forked child's copies of the files, so that only the parent has the lock, and the lock ends with it."""
     for store in list(STORES):
         store.close()
 
 
-os.register_at_fork(after_in_child=close_all)
+os.register_at_fork(after_in_child=close_all_stores)
 
 
 class Store:
@@ -144,34 +148,34 @@ class Store:
         self._file = self._folder = CLOSED
         self._is_broken = False
         STORES.add(self)
-        with named(self.path):
+        with converted_errors(self.path):
             try:
                 self._folder = os.open(os.path.dirname(self.path), os.O_RDONLY | os.O_DIRECTORY)
                 self._name = os.path.basename(self.path) or "."
                 self._open_file()
-                self._settle()
+                self._finish_opening()
             except BaseException:
                 self.close()
                 raise
 
     def _open_file(self) -> None:
         """Opens and locks the file that has the name now."""
-        how = os.O_RDWR | os.O_APPEND | os.O_CREAT | os.O_NOFOLLOW | os.O_NONBLOCK
-        for _ in range(TRIES):
-            self._file = os.open(self._name, how, 0o600, dir_fd=self._folder)
-            own = os.fstat(self._file)
-            if not stat.S_ISREG(own.st_mode):
+        flags = os.O_RDWR | os.O_APPEND | os.O_CREAT | os.O_NOFOLLOW | os.O_NONBLOCK
+        for _ in range(MAX_ATTEMPTS):
+            self._file = os.open(self._name, flags, 0o600, dir_fd=self._folder)
+            opened = os.fstat(self._file)
+            if not stat.S_ISREG(opened.st_mode):
                 raise OSError(errno.EISDIR, "it is not a regular file")
             fcntl.flock(self._file, fcntl.LOCK_EX | fcntl.LOCK_NB)
             with contextlib.suppress(FileNotFoundError):
-                if os.path.samestat(own, os.stat(self._name, dir_fd=self._folder, follow_symlinks=False)):
+                if os.path.samestat(opened, os.stat(self._name, dir_fd=self._folder, follow_symlinks=False)):
                     return
             os.close(self._file)
             self._file = CLOSED
-        raise Locked(f"{self.path}: the file was replaced during each of {TRIES} attempts to open it")
+        raise Locked(f"{self.path}: the file was replaced during each of {MAX_ATTEMPTS} attempts to open it")
 
-    def _settle(self) -> None:
-        """Removes what a crash left of a replacement, and flushes the file and its folder."""
+    def _finish_opening(self) -> None:
+        """Removes the new file that a crash left of a replacement, and flushes the file and its folder."""
         with contextlib.suppress(FileNotFoundError):
             os.unlink(self._name + ".new", dir_fd=self._folder)
         os.fsync(self._file)
@@ -181,45 +185,45 @@ class Store:
         """Returns the whole file, which is the text on which an agent is opened."""
         if self._file == CLOSED:
             raise Broken(f"{self.path}: the store is closed")
-        with named(self.path):
+        with converted_errors(self.path):
             parts: List[bytes] = []
-            at = 0
-            while part := os.pread(self._file, 1 << 20, at):
+            offset = 0
+            while part := os.pread(self._file, 1 << 20, offset):
                 parts.append(part)
-                at += len(part)
+                offset += len(part)
             return b"".join(parts)
 
     @contextlib.contextmanager
-    def _breaking(self) -> Iterator[None]:
+    def _break_on_error(self) -> Iterator[None]:
         """Marks the store as broken if its block fails."""
         if self._file == CLOSED or self._is_broken:
             raise Broken(f"{self.path}: an earlier call failed, or the store is closed")
         self._is_broken = True
-        with named(self.path):
+        with converted_errors(self.path):
             yield
         self._is_broken = False
 
     def append(self, data: bytes) -> None:
         """Appends these bytes and flushes them to the disk. It does nothing if there are none."""
-        with self._breaking():
+        with self._break_on_error():
             if data:
                 write_all(self._file, data)
                 os.fdatasync(self._file)
 
     def replace(self, data: bytes) -> None:
-        """Replaces the file's content by these bytes, durably."""
-        with self._breaking():
-            beside = self._name + ".new"
-            file = os.open(beside, os.O_RDWR | os.O_APPEND | os.O_CREAT | os.O_EXCL, 0o600, dir_fd=self._folder)
+        """Replaces the file's content with these bytes, durably."""
+        with self._break_on_error():
+            new_name = self._name + ".new"
+            file = os.open(new_name, os.O_RDWR | os.O_APPEND | os.O_CREAT | os.O_EXCL, 0o600, dir_fd=self._folder)
             try:
                 fcntl.flock(file, fcntl.LOCK_EX | fcntl.LOCK_NB)
                 os.fchmod(file, stat.S_IMODE(os.fstat(self._file).st_mode) & 0o777)
                 write_all(file, data)
                 os.fsync(file)
-                os.rename(beside, self._name, src_dir_fd=self._folder, dst_dir_fd=self._folder)
+                os.rename(new_name, self._name, src_dir_fd=self._folder, dst_dir_fd=self._folder)
             except OSError:
                 os.close(file)
-                os.unlink(beside, dir_fd=self._folder)
+                os.unlink(new_name, dir_fd=self._folder)
                 raise
             os.close(self._file)
             self._file = file

@@ -1,4 +1,4 @@
-//! Calls that may run out of memory, as tests/library/embed/starved_driver.c says.
+//! Makes the calls that tests/library/embed/starved_driver.c describes. They may run out of memory.
 
 use serf_agent::{Agent, Code, Error, QueryParams, Settings};
 use std::path::Path;
@@ -6,7 +6,8 @@ use std::time::Duration;
 
 const NOW: Duration = Duration::from_nanos(1);
 
-fn merge(agent: &mut Agent, state: &[u8]) -> Result<(), Error> {
+/// Merges a state, and prints the events that are handed out.
+fn print_merge(agent: &mut Agent, state: &[u8]) -> Result<(), Error> {
     let (events, end) = match agent.merge(state, false) {
         Ok(events) => (events, "ok"),
         Err(Error::MergedInPart(events)) => (events, "out of memory"),
@@ -19,25 +20,28 @@ fn merge(agent: &mut Agent, state: &[u8]) -> Result<(), Error> {
     Ok(())
 }
 
-fn put(kind: &str, packet: Result<Vec<u8>, Error>) -> Result<(), Error> {
-    let said = match packet {
+/// Prints a packet in hex, or that memory ran out.
+fn print_packet(kind: &str, packet: Result<Vec<u8>, Error>) -> Result<(), Error> {
+    let text = match packet {
         Ok(packet) => packet.iter().map(|byte| format!("{byte:02x}")).collect(),
         Err(Error::Refused(Code::OutOfMemory)) => "refused".to_string(),
         Err(error) => return Err(error),
     };
-    println!("{kind} {said}");
+    println!("{kind} {text}");
     Ok(())
 }
 
-fn query(agent: &mut Agent, letter: char) -> Result<(), Error> {
+/// Fires a query with two filters that name this letter, and prints its packet.
+fn print_query(agent: &mut Agent, letter: char) -> Result<(), Error> {
     let filters = [1, 2].map(|number| [&b"\x00\x91\xa7"[..], format!("node-{letter}{number}").as_bytes()].concat());
     let params = QueryParams::default().timeout(Duration::from_nanos(9)).filters(filters.to_vec());
-    put("query", agent.query(NOW, 7, b"load", b"", &params).map(|fired_query| fired_query.packet))
+    print_packet("query", agent.query(NOW, 7, b"load", b"", &params).map(|fired_query| fired_query.packet))
 }
 
-fn state(agent: &mut Agent, letter: char) -> Result<(), Error> {
+/// Prints the packet of a state with members that have this letter in their names.
+fn print_state(agent: &mut Agent, letter: char) -> Result<(), Error> {
     let [first, second] = [1, 2].map(|number| format!("node-{letter}{number}"));
-    put("state", agent.local_state(&[(first.as_bytes(), 3), (second.as_bytes(), 4)], &[second.as_bytes()]))
+    print_packet("state", agent.local_state(&[(first.as_bytes(), 3), (second.as_bytes(), 4)], &[second.as_bytes()]))
 }
 
 fn main() -> Result<(), Error> {
@@ -47,14 +51,14 @@ fn main() -> Result<(), Error> {
     for number in 0..5 {
         one.fire(format!("e{number}").as_bytes(), b"", false)?;
     }
-    let whole = one.local_state(&[], &[])?;
-    let load = one.query(NOW, 8, b"load", b"", &QueryParams::default().timeout(Duration::from_nanos(9)))?.packet;
+    let whole_state = one.local_state(&[], &[])?;
+    let load_query = one.query(NOW, 8, b"load", b"", &QueryParams::default().timeout(Duration::from_nanos(9)))?.packet;
     let mut other = Agent::open(b"other", path("other.snapshot"), Settings::default())?;
-    merge(&mut other, &whole)?;
-    merge(&mut other, &whole)?;
-    query(&mut other, 'a')?;
-    other.receive(NOW, &load, false)?;
-    query(&mut other, 'b')?;
-    query(&mut other, 'c')?;
-    ['a', 'b', 'c'].into_iter().try_for_each(|letter| state(&mut other, letter))
+    print_merge(&mut other, &whole_state)?;
+    print_merge(&mut other, &whole_state)?;
+    print_query(&mut other, 'a')?;
+    other.receive(NOW, &load_query, false)?;
+    print_query(&mut other, 'b')?;
+    print_query(&mut other, 'c')?;
+    ['a', 'b', 'c'].into_iter().try_for_each(|letter| print_state(&mut other, letter))
 }

@@ -25,12 +25,13 @@ impl Node {
         Ok(Node { name, agent: Agent::open(name.as_bytes(), path, Settings::default())? })
     }
 
-    /// The handler of events: it prints them.
+    /// The handler of events. It prints the event.
     fn handle(&self, event: &Event) {
         let (name, payload) = (String::from_utf8_lossy(&event.name), String::from_utf8_lossy(&event.payload));
         println!("{} handed out {name} {payload} at {}", self.name, event.time);
     }
 
+    /// Merges the other node's state, as a join does, and handles the events.
     fn join(&mut self, other: &mut Node) -> Result<(), Error> {
         let state = other.agent.local_state(&[], &[])?;
         for event in self.agent.merge(&state, true)? {
@@ -40,12 +41,14 @@ impl Node {
         Ok(())
     }
 
+    /// Fires an event, handles it here, and returns its packet.
     fn fire(&mut self, name: &str, payload: &str) -> Result<Vec<u8>, Error> {
         let fired = self.agent.fire(name.as_bytes(), payload.as_bytes(), false)?;
         self.handle(&fired.event);
         Ok(fired.packet)
     }
 
+    /// Passes a packet to this node, and handles the event that it hands out.
     fn deliver(&mut self, now: Duration, packet: &[u8]) -> Result<(), Error> {
         match self.agent.receive(now, packet, false)?.outcome {
             Outcome::Event(event) => self.handle(&event),
@@ -57,12 +60,12 @@ impl Node {
     }
 
     /// This node fires a query, and the other acks and answers it.
-    fn ask(&mut self, other: &mut Node, now: Duration, name: &str, answer: &str) -> Result<(), Error> {
+    fn ask(&mut self, answerer: &mut Node, now: Duration, name: &str, answer: &str) -> Result<(), Error> {
         let params = QueryParams::default().timeout(at(1000)).want_ack(true);
         let fired_query = self.agent.query(now, 7, name.as_bytes(), b"", &params)?;
-        if let Outcome::Query { handed: Some(query), ack: Some(ack) } = other.agent.receive(now, &fired_query.packet, false)?.outcome {
+        if let Outcome::Query { handed: Some(query), ack: Some(ack) } = answerer.agent.receive(now, &fired_query.packet, false)?.outcome {
             self.agent.receive(now, &ack, false)?;
-            let response = other.agent.respond(now, query.number, answer.as_bytes())?;
+            let response = answerer.agent.respond(now, query.number, answer.as_bytes())?;
             self.agent.receive(now, &response, false)?;
         }
         Ok(())
@@ -83,13 +86,14 @@ impl Node {
 }
 
 fn main() {
-    let ran = std::env::args().nth(1).ok_or_else(|| "two_agents FOLDER".into()).and_then(|folder| run(Path::new(&folder)));
-    if let Err(error) = ran {
+    let result = std::env::args().nth(1).ok_or_else(|| "two_agents FOLDER".into()).and_then(|folder| run(Path::new(&folder)));
+    if let Err(error) = result {
         eprintln!("{error}");
         std::process::exit(1);
     }
 }
 
+/// Runs the two nodes, with their snapshots in a folder.
 fn run(folder: &Path) -> Result<(), Box<dyn std::error::Error>> {
     let mut alpha = Node::open("alpha", folder)?;
     let mut beta = Node::open("beta", folder)?;
@@ -100,7 +104,7 @@ fn run(folder: &Path) -> Result<(), Box<dyn std::error::Error>> {
     beta.deliver(at(1), &packet)?;
     beta.deliver(at(2), &packet)?;
 
-    // Only its file is left.
+    // beta has crashed: only its file is left.
     drop(beta);
     let mut beta = Node::open("beta", folder)?;
     println!("beta crashed, and is back at {}", beta.agent.clocks()?.event);

@@ -9,31 +9,31 @@ use crate::store::StoreError;
 pub enum Code {
     /// The agent was closed, because its file failed.
     Empty,
-    /// The handle already has an agent. This crate never causes it.
+    /// The handle already has an agent. This crate never causes this error.
     InUse,
-    /// Bytes for the file are pending. This crate never causes it, because each call writes them.
+    /// Bytes for the file are pending. This crate never causes this error, because each call writes them.
     Pending,
-    /// The last call has no such result.
+    /// The last call has no result of this kind.
     Nothing,
-    /// Memory ran out. Nothing was done, except that a merge keeps what it accepted ([`Error::MergedInPart`]).
+    /// Memory ran out. Nothing was changed, except that a merge keeps what it accepted ([`Error::MergedInPart`]).
     OutOfMemory,
     /// A setting is out of its bounds, or the name is empty or longer than 128 bytes.
     BadConfig,
-    /// The agent's sink failed. It never does with this library, whose sink is memory.
+    /// The agent's sink failed. This never happens with this library, whose sink is memory.
     SinkError,
-    /// The agent's sink failed before. It never does with this library.
+    /// The agent's sink failed before. This never happens with this library.
     Stopped,
     /// The event, the query or the response is larger than its limit.
     TooLarge,
-    /// The clock is at 2^64 - 1, or this was given as a time, which it is not.
+    /// The clock is at 2^64 - 1, or the caller passed 2^64 - 1 as a time, which is no valid time.
     Exhausted,
     /// The packet is no message. [`crate::packet_error`] returns the reason.
     NoMessage,
-    /// The query has as many answers as the settings allow, and this one is from another node.
+    /// The query has as many answers as the settings allow, and this answer is from a further node.
     RespondersFull,
     /// The packet to merge is not a push/pull.
     NotPushPull,
-    /// A text or a list is longer than 4,294,967,295.
+    /// A text has more than 4,294,967,295 bytes, or a list has more items than that.
     TooLong,
     /// The query's timeout is 0 or negative.
     NoTime,
@@ -99,16 +99,17 @@ pub enum Error {
     /// The library refused to open an agent ([`Code::BadConfig`]), because this setting, or the name's length, is out of its bounds.
     #[non_exhaustive]
     Setting {
-        /// The setting's field, or `name`.
+        /// The name of the setting's field, or `name` for the node's name.
         field: &'static str,
-        /// Its value, or the name's length in bytes.
+        /// The setting's value, or the name's length in bytes.
         value: u64,
-        /// The minimum.
+        /// The minimum of this value.
         min: u64,
-        /// The maximum.
+        /// The maximum of this value.
         max: u64,
     },
-    /// A merge ran out of memory. It accepted these events before: run their handlers, since no later merge hands them out again.
+    /// A merge ran out of memory. Before that, it accepted these events: run their handlers, since no later merge hands
+    /// them out again.
     MergedInPart(Vec<Event>),
     /// The file failed, and the agent is closed, or was not opened.
     Store(StoreError),
@@ -138,7 +139,7 @@ impl From<StoreError> for Error {
 }
 
 /// Turns a code of the library into a result.
-pub(crate) fn answered(code: u32) -> Result<(), Error> {
+pub(crate) fn check_code(code: u32) -> Result<(), Error> {
     match code {
         0 => Ok(()),
         other => Err(Error::Refused(CODES.get(other as usize - 1).copied().unwrap_or(Code::Other(other)))),

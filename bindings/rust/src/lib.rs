@@ -1,9 +1,9 @@
 //! The proved Serf agent for Rust programs that are built without Rattle. An [`Agent`] keeps its snapshot in a file.
 //!
-//! Each call flushes what it wrote to the disk before it returns, so nothing reaches a handler before its line is durable. If
-//! the file fails, the agent is closed: open it again on the same file. The calls of an [`Agent`] borrow it mutably (`&mut`), so
-//! only one thread at a time uses it. A moment (`now`) is the time since a moment that you choose, by one clock that never goes
-//! back: `start.elapsed()` of an [`std::time::Instant`].
+//! Each call flushes what it wrote to the disk before it returns, so nothing reaches a handler before its line is
+//! durable. If the file fails, the agent is closed: open it again on the same file. The calls of an [`Agent`] borrow it
+//! mutably (`&mut`), so only one thread at a time uses it. A moment (`now`) is the time since a start that you choose.
+//! Use one clock that never goes back, for example `start.elapsed()` of an [`std::time::Instant`].
 //!
 //! The library is proved. This crate is tested.
 //!
@@ -46,7 +46,7 @@ mod intent;
 mod members;
 mod outcome;
 mod packet_error;
-mod raw;
+use serf_agent_sys as raw;
 mod settings;
 mod store;
 

@@ -5,28 +5,29 @@ use std::time::Duration;
 /// An event that is handed out. Run its handler.
 #[derive(Clone, Debug, PartialEq, Eq)]
 pub struct Event {
-    /// Its Lamport time.
+    /// The event's Lamport time.
     pub time: u64,
-    /// Its name.
+    /// The event's name.
     pub name: Vec<u8>,
-    /// Its payload.
+    /// The event's payload.
     pub payload: Vec<u8>,
-    /// Whether a host may coalesce the event: of several with the same name within a short time, it may hand out only the last.
+    /// Whether a host may coalesce the event. If several events with the same name arrive within a short time, it may
+    /// then hand out only the latest.
     pub coalesce: bool,
 }
 
-/// A query that is handed out. Run its handler, and answer by [`crate::Agent::respond`] with its number.
+/// A query that is handed out. Run its handler, and answer it by [`crate::Agent::respond`] with its number.
 #[derive(Clone, Debug, PartialEq, Eq)]
 pub struct PendingQuery {
-    /// Its number, for [`crate::Agent::respond`].
+    /// The query's number, for [`crate::Agent::respond`].
     pub number: u64,
-    /// Its Lamport time.
+    /// The query's Lamport time.
     pub time: u64,
-    /// Its ID. The time and the ID together identify a query.
+    /// The query's ID. The time and the ID together identify a query.
     pub id: u32,
-    /// Its name.
+    /// The query's name.
     pub name: Vec<u8>,
-    /// Its payload.
+    /// The query's payload.
     pub payload: Vec<u8>,
     /// The name of the node that fired the query.
     pub source: Vec<u8>,
@@ -34,7 +35,7 @@ pub struct PendingQuery {
     pub addr: Vec<u8>,
     /// The port to which a response is sent.
     pub port: u16,
-    /// How many other nodes also relay a response.
+    /// The number of other nodes that relay a response as well.
     pub relay_factor: u8,
     /// The last moment at which the query can be answered.
     pub deadline: Duration,
@@ -46,25 +47,25 @@ pub struct PendingQuery {
 pub enum Reason {
     /// The event's name and payload together have more than 9,216 bytes.
     Oversize,
-    /// Its time is below the agent's minimum.
+    /// The time of the event or query is below the agent's minimum.
     BelowMinimum,
-    /// Its time is too far below the clock.
+    /// The time of the event or query is too far below the clock.
     TooOld,
     /// The same event or query was accepted before.
     Seen,
-    /// As many as the settings allow were accepted with the same time.
+    /// The limit of events or queries with the same time is reached.
     TimeFull,
-    /// A response to a query that is not open here.
+    /// The packet is a response to a query that is not open here.
     NotOpen,
-    /// A response to another query with the same time.
+    /// The packet is a response to another query with the same time.
     OtherId,
-    /// A response after the deadline.
+    /// The response arrived after the query's deadline.
     Closed,
-    /// An ack, although the query requests none.
+    /// The packet is an ack, although the query requests none.
     AckNotRequested,
-    /// A second ack from the same node.
+    /// The packet is a second ack from the same node.
     AckTwice,
-    /// A second response from the same node.
+    /// The packet is a second response from the same node.
     ResponseTwice,
 }
 
@@ -107,9 +108,9 @@ pub struct Answer {
     pub time: u64,
     /// The query's ID.
     pub id: u32,
-    /// The name of the node that sent it.
+    /// The name of the node that sent the answer.
     pub from: Vec<u8>,
-    /// A response's payload.
+    /// The payload of a response.
     pub payload: Vec<u8>,
 }
 
@@ -132,9 +133,9 @@ pub enum Outcome {
     Response(Answer),
     /// The packet was ignored, for this reason.
     Ignored(Reason),
-    /// A message of this type, which the agent doesn't read.
+    /// The packet is a message of this type, which the agent doesn't read.
     Foreign(u8),
-    /// A push/pull, which is for [`crate::Agent::merge`].
+    /// The packet is a push/pull. Pass it to [`crate::Agent::merge`].
     PushPull,
 }
 
@@ -142,13 +143,13 @@ pub enum Outcome {
 #[derive(Clone, Debug, PartialEq, Eq)]
 #[non_exhaustive]
 pub struct Received {
-    /// Its outcome.
+    /// The outcome of the packet.
     pub outcome: Outcome,
-    /// If `true`, send the packet on unchanged.
+    /// If `true`, send the packet unchanged to other nodes.
     pub rebroadcast: bool,
 }
 
-/// An event as it is handed out on this node, and the packet to send.
+/// An event that was fired and is handed out on this node, and the packet to send.
 #[derive(Clone, Debug, PartialEq, Eq)]
 #[non_exhaustive]
 pub struct Fired {

@@ -1,9 +1,10 @@
 //! Why a packet is not a message.
 
-use crate::error::answered;
+use crate::error::check_code;
 use crate::raw;
 
-/// Why a packet is not a message: the first thing that is wrong with it. Offsets are in bytes from the packet's first byte, its type.
+/// Why a packet is not a message: the first error in the packet. Offsets are in bytes from the packet's first byte,
+/// which is its type.
 #[derive(Clone, Copy, Debug, PartialEq, Eq)]
 #[non_exhaustive]
 pub enum PacketError {
@@ -29,7 +30,7 @@ pub enum PacketError {
     WrongKind(usize),
     /// The integer at this offset is not in its field's range.
     OutOfRange(usize),
-    /// At this offset is 2^64 - 1, which is no time.
+    /// The value at this offset is 2^64 - 1, which is no valid time.
     MaxTime(usize),
     /// A kind that this crate doesn't know.
     Other(u32),
@@ -40,16 +41,16 @@ impl std::fmt::Display for PacketError {
         match self {
             PacketError::Empty => write!(to, "the packet is empty"),
             PacketError::UnknownType(kind) => write!(to, "no message has the type {kind}"),
-            PacketError::Truncated(at) => write!(to, "the packet ends inside the value at {at}"),
-            PacketError::Unsupported(byte, at) => write!(to, "the byte {byte:#x} at {at} doesn't begin a supported value"),
-            PacketError::TooDeep(at) => write!(to, "the array or map at {at} is inside eight others"),
-            PacketError::Trailing(at) => write!(to, "the value ends before {at}, and more bytes follow"),
+            PacketError::Truncated(offset) => write!(to, "the packet ends inside the value at {offset}"),
+            PacketError::Unsupported(byte, offset) => write!(to, "the byte {byte:#x} at {offset} doesn't begin a supported value"),
+            PacketError::TooDeep(offset) => write!(to, "the array or map at {offset} is inside eight others"),
+            PacketError::Trailing(offset) => write!(to, "the value ends before {offset}, and more bytes follow"),
             PacketError::NotAMap => write!(to, "the value is not a map"),
-            PacketError::BadKey(at) => write!(to, "the key at {at} is not raw"),
-            PacketError::Twice(at) => write!(to, "the key at {at} appears for the second time"),
-            PacketError::WrongKind(at) => write!(to, "the value at {at} has the wrong type"),
-            PacketError::OutOfRange(at) => write!(to, "the integer at {at} is out of range"),
-            PacketError::MaxTime(at) => write!(to, "the number at {at} is not a valid time"),
+            PacketError::BadKey(offset) => write!(to, "the key at {offset} is not raw"),
+            PacketError::Twice(offset) => write!(to, "the key at {offset} appears for the second time"),
+            PacketError::WrongKind(offset) => write!(to, "the value at {offset} has the wrong type"),
+            PacketError::OutOfRange(offset) => write!(to, "the integer at {offset} is out of range"),
+            PacketError::MaxTime(offset) => write!(to, "the number at {offset} is not a valid time"),
             PacketError::Other(kind) => write!(to, "the packet has the error {kind}"),
         }
     }
@@ -57,25 +58,26 @@ impl std::fmt::Display for PacketError {
 
 impl std::error::Error for PacketError {}
 
-/// A getter that returns what is wrong with a packet.
-type Getter = unsafe extern "C" fn(*const u8, usize, *mut raw::PacketError) -> u32;
+/// A function of the library that returns the first error in a packet.
+type ErrorGetter = unsafe extern "C" fn(*const u8, usize, *mut raw::PacketError) -> u32;
 
 /// Returns why a packet is no message, or `None` if it is one. No agent is needed.
 pub fn packet_error(packet: &[u8]) -> Option<PacketError> {
-    error_of(packet, raw::serf_agent_packet_error)
+    read_error(packet, raw::serf_agent_packet_error)
 }
 
 /// Returns why [`crate::Intent::of_packet`] refuses a packet with [`crate::Code::NoMessage`], or `None` if it doesn't. No agent is
 /// needed.
 pub fn intent_error(packet: &[u8]) -> Option<PacketError> {
-    error_of(packet, raw::serf_agent_intent_error)
+    read_error(packet, raw::serf_agent_intent_error)
 }
 
-fn error_of(packet: &[u8], getter: Getter) -> Option<PacketError> {
-    let mut found = raw::PacketError::default();
-    // SAFETY: the pointer comes with its length, and `found` is of the type that the library writes.
-    answered(unsafe { getter(packet.as_ptr(), packet.len(), &mut found) }).ok()?;
-    let raw::PacketError { offset, kind, byte } = found;
+/// Returns the first error that a function of the library finds in a packet, or `None` if it finds none.
+fn read_error(packet: &[u8], getter: ErrorGetter) -> Option<PacketError> {
+    let mut raw_error = raw::PacketError::default();
+    // SAFETY: the pointer comes with its length, and `raw_error` is of the type that the library writes.
+    check_code(unsafe { getter(packet.as_ptr(), packet.len(), &mut raw_error) }).ok()?;
+    let raw::PacketError { offset, kind, byte } = raw_error;
     Some(match kind {
         1 => PacketError::Empty,
         2 => PacketError::UnknownType(byte),

@@ -4,11 +4,11 @@ use crate::error::{Code, Error};
 use crate::raw;
 use std::time::Duration;
 
-/// How long a query accepts answers if the host sets no timeout: as long as Serf's in a cluster of 10 to 99 nodes, which is 16 of
-/// its gossip intervals of 0.2 seconds for each digit of the number of nodes.
+/// How long a query accepts answers if the host sets no timeout. It is Serf's timeout in a cluster of 10 to 99 nodes:
+/// 16 gossip intervals of 0.2 seconds for each digit of the number of nodes.
 pub const DEFAULT_QUERY_TIMEOUT: Duration = Duration::from_millis(6_400);
 
-/// Methods that each set one field.
+/// Defines methods that set one field each.
 macro_rules! setters {
     ($($field:ident: $type:ty,)*) => {
         $(
@@ -22,7 +22,7 @@ macro_rules! setters {
     };
 }
 
-/// An agent's settings. `default()` returns Serf's, and each has a method that sets it:
+/// An agent's settings. `default()` returns Serf's settings. Each setting has a method that sets it:
 ///
 /// ```
 /// let settings = serf_agent::Settings::default().event_buffer(256).keep_events(true);
@@ -30,19 +30,19 @@ macro_rules! setters {
 #[derive(Clone, Copy, Debug, PartialEq, Eq)]
 #[non_exhaustive]
 pub struct Settings {
-    /// How many Lamport times of events the buffer holds: 1 to 65,536.
+    /// The number of Lamport times of events that the buffer holds: 1 to 65,536.
     pub event_buffer: u64,
-    /// How many Lamport times of queries the buffer holds: 1 to 65,536.
+    /// The number of Lamport times of queries that the buffer holds: 1 to 65,536.
     pub query_buffer: u64,
     /// The maximum size of a fired event in bytes, at most 9,216.
     pub event_limit: u64,
-    /// The maximum size in bytes of a fired query's packet, at most 9,216; 0 stands for 1,024.
+    /// The maximum size in bytes of a fired query's packet, at most 9,216. 0 stands for 1,024.
     pub query_limit: u64,
-    /// The maximum size in bytes of a response's packet, at most 9,216; 0 stands for 1,024.
+    /// The maximum size in bytes of a response's packet, at most 9,216. 0 stands for 1,024.
     pub response_limit: u64,
-    /// How many names are counted among a query's acks, and among its responses: 1 to 65,536.
+    /// The maximum number of names that are counted among a query's acks, and among its responses: 1 to 65,536.
     pub responders: u64,
-    /// How many events, or queries, are accepted with the same Lamport time: 1 to 65,536.
+    /// The maximum number of events, and of queries, that are accepted with the same Lamport time: 1 to 65,536.
     pub per_time: u64,
     /// Whether a join ignores the events from before it.
     pub ignore_old: bool,
@@ -63,11 +63,12 @@ impl Settings {
         keep_events: bool,
     }
 
-    /// Returns why the library refused these settings: the first one, or the name's length, that is out of the header's bounds.
-    pub(crate) fn refusal(&self, name: &[u8]) -> Error {
+    /// Returns the error for settings that the library refused. It names the first setting that is out of the header's
+    /// bounds, or the name if its length is.
+    pub(crate) fn bounds_error(&self, name: &[u8]) -> Error {
         const MAX_COUNT: u64 = 65_536;
         const MAX_LENGTH: u64 = 9_216;
-        let all = [
+        let bounds = [
             ("name", name.len() as u64, 1, 128),
             ("event_buffer", self.event_buffer, 1, MAX_COUNT),
             ("query_buffer", self.query_buffer, 1, MAX_COUNT),
@@ -77,8 +78,8 @@ impl Settings {
             ("responders", self.responders, 1, MAX_COUNT),
             ("per_time", self.per_time, 1, MAX_COUNT),
         ];
-        let found = all.into_iter().find(|&(_, value, min, max)| value < min || value > max);
-        found.map_or(Error::Refused(Code::BadConfig), |(field, value, min, max)| Error::Setting { field, value, min, max })
+        let out_of_bounds = bounds.into_iter().find(|&(_, value, min, max)| value < min || value > max);
+        out_of_bounds.map_or(Error::Refused(Code::BadConfig), |(field, value, min, max)| Error::Setting { field, value, min, max })
     }
 }
 
@@ -98,7 +99,8 @@ impl Default for Settings {
     }
 }
 
-/// How a query is fired. `default()` returns Serf's parameters, and each has a method that sets it:
+/// The parameters with which a query is fired. `default()` returns Serf's parameters. Each parameter has a method that
+/// sets it:
 ///
 /// ```
 /// # use std::time::Duration;
@@ -113,15 +115,15 @@ pub struct QueryParams {
     pub addr: Vec<u8>,
     /// The port to which answers are sent.
     pub port: u16,
-    /// How many other nodes also relay each answer.
+    /// The number of other nodes that relay each answer as well.
     pub relay_factor: u8,
-    /// Whether each node that hands out the query sends an ack.
+    /// Whether each node that hands out the query has to send an ack.
     pub want_ack: bool,
     /// Whether nodes must not send the query on.
     pub no_broadcast: bool,
     /// Whether this node's tags pass every tag filter in `filters`, so that the query may be handed out here.
     pub tags_pass: bool,
-    /// The filters that a node has to pass, as Serf writes them.
+    /// The filters that a node has to pass, in the form in which Serf writes them.
     pub filters: Vec<Vec<u8>>,
 }
 
@@ -153,7 +155,7 @@ impl QueryParams {
     }
 
     /// Converts the parameters to C's struct, which has no texts. A timeout of more than 292 years becomes 292 years.
-    pub(crate) fn in_c(&self) -> raw::Params {
+    pub(crate) fn to_raw(&self) -> raw::Params {
         raw::Params {
             timeout: i64::try_from(self.timeout.as_nanos()).unwrap_or(i64::MAX),
             port: self.port,
@@ -165,7 +167,8 @@ impl QueryParams {
     }
 }
 
-/// A moment as the library counts it, in nanoseconds. A moment that is later than 584 years is cut to 2^64 - 1 nanoseconds.
+/// Converts a moment to nanoseconds, as the library counts it. A moment of more than 584 years becomes 2^64 - 1
+/// nanoseconds.
 pub(crate) fn nanos(moment: Duration) -> u64 {
     u64::try_from(moment.as_nanos()).unwrap_or(u64::MAX)
 }

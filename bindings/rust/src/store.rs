@@ -8,24 +8,26 @@ use std::os::unix::fs::{FileExt, MetadataExt, OpenOptionsExt, PermissionsExt};
 use std::os::unix::io::AsRawFd;
 use std::path::{Path, PathBuf};
 
-/// How often opening starts again because the file was replaced between its opening and its lock.
+/// The maximum number of attempts to open the file, if it is replaced each time after its opening and before its lock.
 const TRIES: usize = 100;
 
-/// Open without following a link (`O_NOFOLLOW` of Linux, which has another number on aarch64 than on x86-64).
-const NO_FOLLOW: i32 = if cfg!(target_arch = "aarch64") { 0o100_000 } else { 0o400_000 };
+/// The flag to open a file without following a symbolic link (`O_NOFOLLOW` of Linux, whose number on aarch64 differs
+/// from that on x86-64).
+const O_NOFOLLOW: i32 = if cfg!(target_arch = "aarch64") { 0o100_000 } else { 0o400_000 };
 
-/// Open without waiting for a pipe's other end (`O_NONBLOCK` of Linux).
-const NO_WAIT: i32 = 0o4_000;
+/// The flag to open a file without waiting for the other end of a pipe (`O_NONBLOCK` of Linux).
+const O_NONBLOCK: i32 = 0o4_000;
 
-/// An exclusive lock, and don't wait for it (`LOCK_EX`, `LOCK_NB` of Linux).
-const ALONE: c_int = 2;
-const AT_ONCE: c_int = 4;
+/// The flags to lock a file exclusively, and not to wait for the lock (`LOCK_EX` and `LOCK_NB` of Linux).
+const LOCK_EX: c_int = 2;
+const LOCK_NB: c_int = 4;
 
 extern "C" {
-    fn flock(file: c_int, how: c_int) -> c_int;
+    fn flock(file: c_int, operation: c_int) -> c_int;
 }
 
-/// Why the file can't be opened, read or written: what kind of error it is, for which file, and what the system reported.
+/// Why the file can't be opened, read or written. It has the kind of the error, the file's path, and the system's
+/// error.
 #[derive(Debug)]
 pub struct StoreError {
     path: PathBuf,
@@ -38,7 +40,7 @@ pub struct StoreError {
 #[derive(Clone, Copy, Debug, PartialEq, Eq)]
 #[non_exhaustive]
 pub enum StoreErrorKind {
-    /// Another store, in this process or another one, has locked the file. [`StoreError::owner`] says which process.
+    /// Another store, in this process or another one, has locked the file. [`StoreError::owner`] returns that process.
     Locked,
     /// The folder that should contain the file doesn't exist.
     MissingFolder,
@@ -65,12 +67,13 @@ impl StoreError {
         &self.path
     }
 
-    /// If the file is locked: the process that has it, or `None` if `/proc/locks` doesn't show it.
+    /// The process that has locked the file, if another store has locked it and `/proc/locks` shows the lock. Otherwise
+    /// `None`.
     pub fn owner(&self) -> Option<u32> {
         self.owner
     }
 
-    /// What the system reported, if it did.
+    /// The system's error, if there is one.
     pub fn cause(&self) -> Option<&io::Error> {
         self.cause.as_ref()
     }
@@ -91,12 +94,12 @@ impl std::fmt::Display for StoreErrorKind {
 }
 
 impl std::fmt::Display for StoreError {
-    /// Writes the path, the kind and the cause. So the error has no source.
+    /// Writes the path, the kind and the cause. Because the text has the cause, the error has no source.
     fn fmt(&self, to: &mut std::fmt::Formatter<'_>) -> std::fmt::Result {
         write!(to, "{}: {}", self.path.display(), self.kind)?;
         match (self.kind, self.owner, &self.cause) {
-            (StoreErrorKind::Locked, Some(own), _) if own == std::process::id() => write!(to, ", in this process"),
-            (StoreErrorKind::Locked, Some(other), _) => write!(to, ", in process {other}"),
+            (StoreErrorKind::Locked, Some(pid), _) if pid == std::process::id() => write!(to, ", in this process"),
+            (StoreErrorKind::Locked, Some(pid), _) => write!(to, ", in process {pid}"),
             (StoreErrorKind::Locked, None, _) => write!(to, "; /proc/locks doesn't show in which process"),
             (_, _, Some(cause)) => write!(to, ": {cause}"),
             (_, _, None) => Ok(()),
@@ -113,9 +116,9 @@ struct Failure {
 }
 
 impl Failure {
-    /// The error of the store whose file is at `path`.
-    fn at(self, path: &Path) -> StoreError {
-        let owner = if self.kind == StoreErrorKind::Locked { owner_of(path, Path::new("/proc/locks")) } else { None };
+    /// Returns the error of the store whose file is at `path`.
+    fn at_path(self, path: &Path) -> StoreError {
+        let owner = if self.kind == StoreErrorKind::Locked { lock_owner(path, Path::new("/proc/locks")) } else { None };
         StoreError { path: path.to_path_buf(), kind: self.kind, owner, cause: self.cause }
     }
 }
@@ -127,7 +130,8 @@ impl From<StoreErrorKind> for Failure {
 }
 
 impl From<io::Error> for Failure {
-    /// Converts by the error numbers of Linux, which are the same on both processors. `InvalidInput` without a number is for a path that no file can have.
+    /// Converts a system's error by its error number. Linux has the same numbers on both processors. `InvalidInput`
+    /// without a number means that no file can have this path.
     fn from(error: io::Error) -> Self {
         let kind = match error.raw_os_error() {
             // EWOULDBLOCK
@@ -147,22 +151,22 @@ impl From<io::Error> for Failure {
     }
 }
 
-/// The process that locked a file by `flock`, as the system's list of locks shows it.
-fn owner_of(path: &Path, locks: &Path) -> Option<u32> {
-    let own = fs::metadata(path).ok()?;
-    let (device, list) = (own.dev(), fs::read_to_string(locks).ok()?);
+/// Returns the process that locked a file by `flock`, according to the system's list of locks.
+fn lock_owner(path: &Path, locks: &Path) -> Option<u32> {
+    let metadata = fs::metadata(path).ok()?;
+    let (device, lock_list) = (metadata.dev(), fs::read_to_string(locks).ok()?);
     let major = device >> 8 & 0xfff | device >> 32 & !0xfff;
     let minor = device & 0xff | device >> 12 & !0xff;
-    let place = format!("{major:02x}:{minor:02x}:{}", own.ino());
-    let mut lines = list.lines().map(|line| line.split_whitespace().collect::<Vec<_>>());
-    let line = lines.find(|words| words.get(1) == Some(&"FLOCK") && words.get(5) == Some(&place.as_str()))?;
+    let file_id = format!("{major:02x}:{minor:02x}:{}", metadata.ino());
+    let mut lines = lock_list.lines().map(|line| line.split_whitespace().collect::<Vec<_>>());
+    let line = lines.find(|words| words.get(1) == Some(&"FLOCK") && words.get(5) == Some(&file_id.as_str()))?;
     line[4].parse().ok()
 }
 
-/// Locks a file, unless another store has it.
+/// Locks a file, unless another store has locked it.
 fn lock(file: &File) -> Result<(), Failure> {
     // SAFETY: the descriptor is open as long as the file is.
-    match unsafe { flock(file.as_raw_fd(), ALONE | AT_ONCE) } {
+    match unsafe { flock(file.as_raw_fd(), LOCK_EX | LOCK_NB) } {
         0 => Ok(()),
         _ => Err(io::Error::last_os_error().into()),
     }
@@ -185,19 +189,20 @@ pub struct Store {
     is_broken: bool,
 }
 
-/// The path of the file that a replacement writes first.
-fn beside(path: &Path) -> PathBuf {
+/// Returns the path of the file that a replacement writes first.
+fn new_file_path(path: &Path) -> PathBuf {
     let mut name = OsString::from(path);
     name.push(".new");
     name.into()
 }
 
+/// Flushes the folder of a file, so that the file's name is on the disk.
 fn sync_folder(path: &Path) -> io::Result<()> {
     let folder = path.parent().unwrap_or(Path::new("/"));
     File::open(folder)?.sync_all()
 }
 
-/// The path without symbolic links. The file itself doesn't have to exist.
+/// Returns the path without symbolic links. The file itself doesn't have to exist.
 fn real_path(path: &Path) -> Result<PathBuf, Failure> {
     match fs::canonicalize(path) {
         Err(error) if error.kind() == io::ErrorKind::NotFound => {
@@ -208,23 +213,23 @@ fn real_path(path: &Path) -> Result<PathBuf, Failure> {
             };
             Ok(fs::canonicalize(folder)?.join(name))
         }
-        found => Ok(found?),
+        resolved => Ok(resolved?),
     }
 }
 
 /// Opens and locks the file that has this path now.
 fn open_locked(path: &Path) -> Result<File, Failure> {
     for _ in 0..TRIES {
-        let mut how = OpenOptions::new();
-        how.read(true).append(true).create(true).mode(0o600);
-        let file = how.custom_flags(NO_FOLLOW | NO_WAIT).open(path)?;
-        let own = file.metadata()?;
-        if !own.is_file() {
+        let mut options = OpenOptions::new();
+        options.read(true).append(true).create(true).mode(0o600);
+        let file = options.custom_flags(O_NOFOLLOW | O_NONBLOCK).open(path)?;
+        let opened = file.metadata()?;
+        if !opened.is_file() {
             return Err(StoreErrorKind::NotAFile.into());
         }
         lock(&file)?;
         match fs::symlink_metadata(path) {
-            Ok(named) if (named.dev(), named.ino()) == (own.dev(), own.ino()) => return Ok(file),
+            Ok(at_path) if (at_path.dev(), at_path.ino()) == (opened.dev(), opened.ino()) => return Ok(file),
             _ => {}
         }
     }
@@ -235,13 +240,14 @@ impl Store {
     /// Opens or creates the file, and locks it. It follows a symbolic link to its file.
     pub fn open(path: impl AsRef<Path>) -> Result<Store, StoreError> {
         let path = path.as_ref();
-        Store::open_at(path).map_err(|failure| failure.at(path))
+        Store::open_at(path).map_err(|failure| failure.at_path(path))
     }
 
+    /// Opens and locks the file, removes what a crash left, and flushes the file and its folder.
     fn open_at(path: &Path) -> Result<Store, Failure> {
         let path = real_path(path)?;
         let file = open_locked(&path)?;
-        match fs::remove_file(beside(&path)) {
+        match fs::remove_file(new_file_path(&path)) {
             Err(error) if error.kind() != io::ErrorKind::NotFound => return Err(error.into()),
             _ => {}
         }
@@ -252,10 +258,11 @@ impl Store {
 
     /// Returns the whole file, which is the text on which an agent is opened.
     pub fn read(&self) -> Result<Vec<u8>, StoreError> {
-        self.text().map_err(|failure| failure.at(&self.path))
+        self.read_text().map_err(|failure| failure.at_path(&self.path))
     }
 
-    fn text(&self) -> Result<Vec<u8>, Failure> {
+    /// Reads the file from its start to its end.
+    fn read_text(&self) -> Result<Vec<u8>, Failure> {
         let (mut text, mut part) = (Vec::new(), [0; 1 << 16]);
         loop {
             match self.file.read_at(&mut part, text.len() as u64)? {
@@ -267,51 +274,52 @@ impl Store {
 
     /// Appends these bytes and flushes them to the disk. It does nothing if there are none.
     pub fn append(&mut self, bytes: &[u8]) -> Result<(), StoreError> {
-        let done = self.breaking(|store| {
+        let result = self.break_on_error(|store| {
             if !bytes.is_empty() {
                 store.file.write_all(bytes)?;
                 store.file.sync_data()?;
             }
             Ok(())
         });
-        done.map_err(|failure| failure.at(&self.path))
+        result.map_err(|failure| failure.at_path(&self.path))
     }
 
-    /// Replaces the file's content by these bytes, durably.
+    /// Replaces the file's content with these bytes, durably.
     pub fn replace(&mut self, bytes: &[u8]) -> Result<(), StoreError> {
-        let done = self.breaking(|store| {
-            let beside = beside(&store.path);
-            match store.written_beside(&beside, bytes) {
+        let result = self.break_on_error(|store| {
+            let new_path = new_file_path(&store.path);
+            match store.write_and_rename(&new_path, bytes) {
                 Ok(file) => store.file = file,
                 Err(error) => {
-                    let _ = fs::remove_file(&beside);
+                    let _ = fs::remove_file(&new_path);
                     return Err(error);
                 }
             }
             Ok(sync_folder(&store.path)?)
         });
-        done.map_err(|failure| failure.at(&self.path))
+        result.map_err(|failure| failure.at_path(&self.path))
     }
 
-    fn written_beside(&self, beside: &Path, bytes: &[u8]) -> Result<File, Failure> {
-        let mut how = OpenOptions::new();
-        let mut file = how.read(true).append(true).create_new(true).mode(0o600).open(beside)?;
+    /// Writes, locks and flushes the new file of a replacement, and renames it to the old file's name. Returns it open.
+    fn write_and_rename(&self, new_path: &Path, bytes: &[u8]) -> Result<File, Failure> {
+        let mut options = OpenOptions::new();
+        let mut file = options.read(true).append(true).create_new(true).mode(0o600).open(new_path)?;
         lock(&file)?;
-        let rights = self.file.metadata()?.permissions().mode() & 0o777;
-        file.set_permissions(fs::Permissions::from_mode(rights))?;
+        let permissions = self.file.metadata()?.permissions().mode() & 0o777;
+        file.set_permissions(fs::Permissions::from_mode(permissions))?;
         file.write_all(bytes)?;
         file.sync_all()?;
-        fs::rename(beside, &self.path)?;
+        fs::rename(new_path, &self.path)?;
         Ok(file)
     }
 
     /// Runs an operation. If it fails, the store is broken.
-    fn breaking(&mut self, done: impl FnOnce(&mut Store) -> Result<(), Failure>) -> Result<(), Failure> {
+    fn break_on_error(&mut self, operation: impl FnOnce(&mut Store) -> Result<(), Failure>) -> Result<(), Failure> {
         if self.is_broken {
             return Err(StoreErrorKind::Broken.into());
         }
         self.is_broken = true;
-        done(self)?;
+        operation(self)?;
         self.is_broken = false;
         Ok(())
     }
@@ -321,8 +329,9 @@ impl Store {
 mod tests {
     use super::*;
 
-    /// What the system's list of locks may have of the file in question (at PLACE): nothing, another kind of lock, a lock that
-    /// somebody waits for, and its lock.
+    /// Texts of the system's list of locks, for a file at PLACE: an empty one, one with another kind of lock, one with
+    /// a lock that a process still waits for, and one with the file's lock. Each text has the process that `lock_owner`
+    /// has to return.
     const LOCKS: [(&str, Option<u32>); 4] = [
         ("", None),
         ("1: POSIX  ADVISORY  WRITE 71 PLACE 0 EOF\n", None),
@@ -334,17 +343,17 @@ mod tests {
     fn owners_in_a_list_of_locks() {
         let folder = std::env::temp_dir().join(format!("serf-agent-owners-{}", std::process::id()));
         fs::create_dir_all(&folder).unwrap();
-        let (path, locks) = (folder.join("owned"), folder.join("locks"));
+        let (path, lock_list) = (folder.join("owned"), folder.join("lock_list"));
         let store = Store::open(&path).unwrap();
-        let own = store.file.metadata().unwrap();
-        // (a device whose numbers fit into a byte each, as on the machines of the tests)
-        let place = format!("{:02x}:{:02x}:{}", own.dev() >> 8, own.dev() & 0xff, own.ino());
+        let metadata = store.file.metadata().unwrap();
+        // (each number of the device fits into a byte, as on the machines of the tests)
+        let file_id = format!("{:02x}:{:02x}:{}", metadata.dev() >> 8, metadata.dev() & 0xff, metadata.ino());
         for (text, owner) in LOCKS {
-            fs::write(&locks, text.replace("PLACE", &place)).unwrap();
-            assert_eq!(owner_of(&path, &locks), owner, "{text}");
+            fs::write(&lock_list, text.replace("PLACE", &file_id)).unwrap();
+            assert_eq!(lock_owner(&path, &lock_list), owner, "{text}");
         }
-        assert_eq!(owner_of(&path, &folder.join("none")), None);
-        assert_eq!(owner_of(&folder.join("none"), &locks), None);
+        assert_eq!(lock_owner(&path, &folder.join("none")), None);
+        assert_eq!(lock_owner(&folder.join("none"), &lock_list), None);
         drop(store);
         fs::remove_dir_all(folder).unwrap();
     }

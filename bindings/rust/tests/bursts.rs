@@ -3,8 +3,8 @@
 use serf_agent::{Agent, Call, CallOutcome, Code, Error, Outcome, Reason, Settings};
 use std::time::Duration;
 
-/// A new agent in the test's own folder, and its file.
-fn opened(test: &str, name: &str) -> (Agent, std::path::PathBuf) {
+/// Opens a new agent in the test's own folder. Returns it with the path of its file.
+fn open_agent(test: &str, name: &str) -> (Agent, std::path::PathBuf) {
     let folder = std::env::temp_dir().join(format!("serf-agent-{test}-{}", std::process::id()));
     std::fs::create_dir_all(&folder).unwrap();
     let path = folder.join(name);
@@ -16,18 +16,18 @@ const FIRE: Call<'static> = Call::Fire { name: b"own", payload: b"", coalesce: f
 
 #[test]
 fn outcomes_in_order() {
-    let (mut one, first) = opened("order", "one");
-    let (mut other, path) = opened("order", "other");
+    let (mut one, first) = open_agent("order", "one");
+    let (mut other, path) = open_agent("order", "other");
     let packet = one.fire(b"deploy", b"", false).unwrap().packet;
     let receive = |packet| Call::Receive { now: Duration::from_nanos(1), packet, tags_pass: false };
     let calls = [receive(&packet), receive(&packet[1..]), FIRE, receive(&packet)];
     let outcomes: Vec<_> = other.burst(calls).unwrap().collect();
-    let (event, fault, fired, repeat) = match &outcomes[..] {
-        [event, fault, fired, repeat] => (event, fault, fired, repeat),
+    let (event, error, fired, repeat) = match &outcomes[..] {
+        [event, error, fired, repeat] => (event, error, fired, repeat),
         _ => panic!("{outcomes:?}"),
     };
     assert!(matches!(event, Ok(CallOutcome::Received(received)) if received.rebroadcast && matches!(received.outcome, Outcome::Event(_))));
-    assert!(matches!(fault, Err(Error::Refused(Code::NoMessage))));
+    assert!(matches!(error, Err(Error::Refused(Code::NoMessage))));
     assert!(matches!(fired, Ok(CallOutcome::Fired(fired)) if fired.event.time == 2));
     assert!(matches!(repeat, Ok(CallOutcome::Received(received)) if received.outcome == Outcome::Ignored(Reason::Seen)));
     assert_eq!(std::fs::read(&path).unwrap(), b"event-clock: 1\nevent-clock: 2\n");
@@ -37,7 +37,7 @@ fn outcomes_in_order() {
 
 #[test]
 fn unread_outcomes_wait() {
-    let (mut agent, path) = opened("unread", "one");
+    let (mut agent, path) = open_agent("unread", "one");
     let mut first = agent.burst([FIRE, FIRE, FIRE]).unwrap();
     assert_eq!(first.size_hint(), (3, None));
     assert!(matches!(first.next(), Some(Ok(CallOutcome::Fired(fired))) if fired.event.time == 1));

@@ -2,16 +2,17 @@
 
 use serf_agent::{begun_line, done_line, done_up_to_line, open_events, open_line, Agent, Code, Error, Settings};
 
-/// A line of an event.
+/// A function that makes a line of an event.
 type Line = fn(u64, &[u8], &[u8]) -> Result<Vec<u8>, Error>;
 
-/// What a text leaves open: each event's time, name, payload, and whether its handler has begun.
-fn open(text: &[u8]) -> Option<Vec<(u64, String, String, bool)>> {
+/// Returns the events that a text leaves open: each event's time, name, payload, and whether its handler has begun.
+fn open_list(text: &[u8]) -> Option<Vec<(u64, String, String, bool)>> {
     let words = |bytes: &[u8]| String::from_utf8(bytes.to_vec()).unwrap();
     let found = open_events(text).unwrap()?;
     Some(found.iter().map(|event| (event.time, words(&event.name), words(&event.payload), event.begun)).collect())
 }
 
+/// Returns an open event in the form in which `open_list` returns it.
 fn event(time: u64, name: &str, payload: &str, begun: bool) -> (u64, String, String, bool) {
     (time, name.to_string(), payload.to_string(), begun)
 }
@@ -38,15 +39,15 @@ fn open_events_of_texts() {
     let (one, two) = (open_line(1, b"one", b"").unwrap(), open_line(2, b"two", b"payload").unwrap());
     let both = [start.clone(), one.clone(), two].concat();
     let (first, second) = (event(1, "one", "", false), event(2, "two", "payload", false));
-    let more = |line: Result<Vec<u8>, Error>| open(&[both.clone(), line.unwrap()].concat());
-    assert_eq!(open(b""), None);
-    assert_eq!(open(&one), None);
-    assert_eq!(open(&start), Some(vec![]));
-    assert_eq!(open(&both), Some(vec![first, second.clone()]));
-    assert_eq!(more(begun_line(1, b"one", b"")), Some(vec![event(1, "one", "", true), second.clone()]));
-    assert_eq!(more(done_line(1, b"one", b"")), Some(vec![second.clone()]));
-    assert_eq!(more(done_up_to_line(1)), Some(vec![second]));
-    assert_eq!(more(done_up_to_line(2)), Some(vec![]));
+    let open_after = |line: Result<Vec<u8>, Error>| open_list(&[both.clone(), line.unwrap()].concat());
+    assert_eq!(open_list(b""), None);
+    assert_eq!(open_list(&one), None);
+    assert_eq!(open_list(&start), Some(vec![]));
+    assert_eq!(open_list(&both), Some(vec![first, second.clone()]));
+    assert_eq!(open_after(begun_line(1, b"one", b"")), Some(vec![event(1, "one", "", true), second.clone()]));
+    assert_eq!(open_after(done_line(1, b"one", b"")), Some(vec![second.clone()]));
+    assert_eq!(open_after(done_up_to_line(1)), Some(vec![second]));
+    assert_eq!(open_after(done_up_to_line(2)), Some(vec![]));
 }
 
 #[test]
@@ -58,18 +59,18 @@ fn open_events_of_an_agents_file() {
     let append = |line: Vec<u8>| std::fs::write(&path, [text(), line].concat()).unwrap();
     let agent = || Agent::open(b"a", &path, Settings::default().keep_events(true)).unwrap();
     agent().fire(b"before", b"", false).unwrap();
-    assert_eq!(open(&text()), None);
+    assert_eq!(open_list(&text()), None);
     append(done_up_to_line(1).unwrap());
     let fired = agent().fire(b"deploy", b"v1", false).unwrap().event;
-    assert_eq!(open(&text()), Some(vec![event(2, "deploy", "v1", false)]));
+    assert_eq!(open_list(&text()), Some(vec![event(2, "deploy", "v1", false)]));
     append(begun_line(fired.time, &fired.name, &fired.payload).unwrap());
-    assert_eq!(open(&text()), Some(vec![event(2, "deploy", "v1", true)]));
+    assert_eq!(open_list(&text()), Some(vec![event(2, "deploy", "v1", true)]));
     append(done_line(fired.time, &fired.name, &fired.payload).unwrap());
-    assert_eq!(open(&text()), Some(vec![]));
+    assert_eq!(open_list(&text()), Some(vec![]));
     let mut compacting = agent();
     compacting.compact_with(&[done_up_to_line(2).unwrap(), open_line(2, b"deploy", b"v1").unwrap()].concat()).unwrap();
-    assert_eq!(open(&text()), Some(vec![event(2, "deploy", "v1", false)]));
+    assert_eq!(open_list(&text()), Some(vec![event(2, "deploy", "v1", false)]));
     compacting.compact().unwrap();
-    assert_eq!(open(&text()), None);
+    assert_eq!(open_list(&text()), None);
     std::fs::remove_dir_all(folder).unwrap();
 }

@@ -4,14 +4,15 @@ use serf_agent::{Agent, Code, Error, Event, QueryParams, Reason, Settings, Store
 use std::error::Error as _;
 use std::time::Duration;
 
+/// Creates the test's own folder.
 fn folder(name: &str) -> std::path::PathBuf {
     let path = std::path::Path::new(env!("CARGO_TARGET_TMPDIR")).join(format!("{name}-{}", std::process::id()));
     std::fs::create_dir_all(&path).expect("a folder");
     path
 }
 
-/// Whether the system's list shows a lock of this process. (In some containers it shows none.)
-fn is_listed() -> bool {
+/// Returns whether the system's list shows a lock of this process. (In some containers it shows none.)
+fn is_lock_listed() -> bool {
     let own = std::process::id().to_string();
     let list = std::fs::read_to_string("/proc/locks").unwrap_or_default();
     list.lines().any(|line| line.split_whitespace().nth(4) == Some(&own))
@@ -29,11 +30,11 @@ fn an_agent_is_shown() {
         other => panic!("{other:?}"),
     };
     assert_eq!((error.kind(), error.path()), (StoreErrorKind::Locked, path.as_path()));
-    let said = format!("{}: another agent has the file", path.display());
-    if is_listed() {
-        assert_eq!((error.owner(), error.to_string()), (Some(std::process::id()), said + ", in this process"));
+    let expected = format!("{}: another agent has the file", path.display());
+    if is_lock_listed() {
+        assert_eq!((error.owner(), error.to_string()), (Some(std::process::id()), expected + ", in this process"));
     } else {
-        assert!(error.owner().is_none() && error.to_string().starts_with(&said), "{error}");
+        assert!(error.owner().is_none() && error.to_string().starts_with(&expected), "{error}");
     }
     assert_eq!(format!("{}", Error::Store(error)).matches("one.snapshot").count(), 1);
     drop(agent);
@@ -43,8 +44,8 @@ fn an_agent_is_shown() {
 #[test]
 fn an_error_has_its_path_and_its_cause() {
     let error = Agent::open(b"a", "/none/a", Settings::default()).unwrap_err();
-    let said = "/none/a: the folder of the file doesn't exist: No such file or directory (os error 2)";
-    assert_eq!(error.to_string(), said);
+    let expected = "/none/a: the folder of the file doesn't exist: No such file or directory (os error 2)";
+    assert_eq!(error.to_string(), expected);
     let shown = format!("{error:?}");
     assert!(
         error.source().is_none() && shown.contains("/none/a") && shown.contains("MissingFolder") && shown.contains("code: 2"),
@@ -60,9 +61,9 @@ fn an_error_has_its_path_and_its_cause() {
 #[test]
 fn a_merge_in_part_is_shown_with_its_events() {
     let event = Event { time: 7, name: b"deploy".to_vec(), payload: Vec::new(), coalesce: false };
-    let fault = Error::MergedInPart(vec![event]);
-    assert_eq!(fault.to_string(), "the merge ran out of memory; events that it accepted before: 1");
-    assert!(fault.source().is_none() && format!("{fault:?}").contains("time: 7"));
+    let error = Error::MergedInPart(vec![event]);
+    assert_eq!(error.to_string(), "the merge ran out of memory; events that it accepted before: 1");
+    assert!(error.source().is_none() && format!("{error:?}").contains("time: 7"));
 }
 
 #[test]
@@ -80,7 +81,7 @@ fn default_parameters_are_accepted() {
     assert_eq!((agent.next_deadline().unwrap(), DEFAULT_QUERY_TIMEOUT), (Some(DEFAULT_QUERY_TIMEOUT), Duration::from_millis(6400)));
     let refused = agent.query(Duration::ZERO, 8, b"load", b"", &QueryParams::default().timeout(Duration::ZERO));
     assert!(matches!(refused, Err(Error::Refused(Code::NoTime))), "{refused:?}");
-    // Durations that the library can't count are cut.
+    // Durations that are too long for the library are shortened.
     let query = agent.query(Duration::ZERO, 9, b"load", b"", &QueryParams::default().timeout(Duration::MAX)).expect("a query");
     assert_eq!(query.handed.expect("handed out here").deadline, Duration::from_nanos(i64::MAX as u64));
     assert_eq!(agent.close_due(Duration::MAX).expect("both").len(), 2);

@@ -3,9 +3,9 @@
 from collections import namedtuple
 
 from . import kept, messages
-from .messagepack import Fault
-from .messages import GREATEST, PushPull, Query, Response, Slot, Texts, UserEvent
-from .snapshot import SinkFault, Snapshot
+from .messagepack import WireError
+from .messages import MAX_UINT64, PushPull, Query, Response, Slot, Texts, UserEvent
+from .snapshot import SinkError, Snapshot
 from .switches import wrong
 from .windows import Window
 
@@ -60,7 +60,7 @@ class OpenQuery:
         self.acks, self.responses = set(), set()
 
 
-class HandedQuery:
+class PendingQuery:
     """A query that was handed out, until it is answered."""
 
     def __init__(self, time, query_id, deadline):
@@ -73,7 +73,7 @@ class Agent:
     def __init__(self, config, text):
         self.config = config
         self.events = self.queries = None
-        self.handed = []
+        self.pending_queries = []
         self.live(text)
 
     # Lives
@@ -83,42 +83,42 @@ class Agent:
         before = self.events, self.queries
         self.snapshot = Snapshot(text, self.config.keeps)
         values = self.snapshot.values
-        self.member = self.clock_behind(values["clock"])
+        self.member = self.clock_after(values["clock"])
         self.events = self.window(self.config.events, values["event-clock"])
         self.queries = self.window(self.config.queries, values["query-clock"])
         if wrong("restart_keeps_windows") and before[0]:
             self.events.slots, self.queries.slots = before[0].slots, before[1].slots
         if self.config.keeps:
-            self.go_on(text)
+            self.resume(text)
         self.open = {}
         if not wrong("answers_survive_restart"):
-            self.handed = []
+            self.pending_queries = []
 
-    def clock_behind(self, value):
+    def clock_after(self, value):
         return max(value, 1) if wrong("restart_at_the_line") else value + 1
 
     def window(self, slots, value):
-        return Window(slots, self.config.per_time, self.clock_behind(value), value + 1)
+        return Window(slots, self.config.per_time, self.clock_after(value), value + 1)
 
-    def go_on(self, text):
+    def resume(self, text):
         """Restores the windows of the life before, from what the text keeps."""
         last = self.snapshot.values
-        self.events.go_on(last[kept.EVENTS], kept.min_in(text, kept.EVENTS))
-        self.queries.go_on(last[kept.QUERIES], kept.min_in(text, kept.QUERIES))
+        self.events.resume(last[kept.EVENTS], kept.min_in(text, kept.EVENTS))
+        self.queries.resume(last[kept.QUERIES], kept.min_in(text, kept.QUERIES))
         for time, name, payload in kept.events_in(text):
             if self.is_kept(time, last[kept.EVENTS]):
                 reason = self.judge_event(time, name, payload, self.events.clock)
-                self.events.take_back(time, self.event_entry(name, payload), reason)
+                self.events.restore(time, self.event_entry(name, payload), reason)
         for time, query_id in kept.queries_in(text):
             if self.is_kept(time, last[kept.QUERIES]):
                 key = self.query_key(query_id)
-                self.queries.take_back(time, key, self.queries.judge(time, key, self.queries.clock))
+                self.queries.restore(time, key, self.queries.judge(time, key, self.queries.clock))
         for window in (self.events, self.queries):
             window.minimum = max(window.minimum, window.reach())
 
     def is_kept(self, time, last):
         """Whether a line with this time is valid: it is not above the last clock line."""
-        return time <= last or wrong("line_above_the_clock_line_taken_back")
+        return time <= last or wrong("line_above_the_clock_line_restored")
 
     def clocks(self):
         return self.member, self.events.clock, self.queries.clock
@@ -129,7 +129,7 @@ class Agent:
         if wrong("restart_keeps_the_plan"):
             self.snapshot.disk.plan, self.snapshot.disk.keeps_new = disk.plan, disk.keeps_new
         reply = Reply("restarted", *self.clocks())
-        if self.config.keeps and wrong("taken_back_is_handed_out"):
+        if self.config.keeps and wrong("restored_is_handed_out"):
             reply.events = [event_line(time, *texts, False) for time, (_, texts) in self.events.held_from(0)]
         return reply
 
@@ -176,13 +176,13 @@ class Agent:
         sizes = [len(name) + len(payload)]
         if not wrong("limit_of_texts_alone"):
             sizes.append(len(packet))
-        if time >= GREATEST and wrong("exhausted_before_too_large"):
+        if time >= MAX_UINT64 and wrong("exhausted_before_too_large"):
             raise Refusal("Exhausted")
         if max(sizes) > limit and not wrong("fires_without_limit"):
             raise Refusal("TooLarge")
-        if time >= GREATEST:
+        if time >= MAX_UINT64:
             raise Refusal("Exhausted")
-        self.keep_event(time, name, payload, enters=not wrong("own_event_not_kept"))
+        self.keep_event(time, name, payload, is_inserted=not wrong("own_event_not_kept"))
         reply = Reply("fired", time)
         reply.packets.append(packet)
         if not wrong("own_event_not_handed_out"):
@@ -193,29 +193,29 @@ class Agent:
         """What the window holds of an event: what distinguishes it from others, and its texts."""
         return self.event_key(name, payload), (name, payload)
 
-    def note(self, kind, value, line):
+    def append_lines(self, kind, value, line):
         """Writes the clock line of what is accepted, and, if events are kept, its own line too."""
         if self.config.keeps:
-            self.snapshot.note_kept(kind, value, line)
+            self.snapshot.append_kept(kind, value, line)
         else:
-            self.snapshot.note(kind, value)
+            self.snapshot.append_clock(kind, value)
 
-    def keep_event(self, time, name, payload, enters=True):
+    def keep_event(self, time, name, payload, is_inserted=True):
         """Accepts an event: its line first, then its entry and the clock."""
         clock = self.events.observed(time)
         if wrong("failed_line_moves_clock"):
             self.events.clock = clock
         if not wrong("no_line_for_events"):
             value = clock if wrong("line_of_the_clock") else time
-            self.note(kept.EVENTS, value, kept.event_line(time, name, payload))
-        if enters:
-            self.events.enter(time, self.event_entry(name, payload))
+            self.append_lines(kept.EVENTS, value, kept.event_line(time, name, payload))
+        if is_inserted:
+            self.events.insert(time, self.event_entry(name, payload))
         self.events.clock = clock
 
     def judge_event(self, time, name, payload, clock):
         """Why an event isn't accepted, or None."""
-        most = limit_of(MAX_EVENT, "size_limit")
-        if len(name) + len(payload) > most and not wrong("no_size_limit_on_receipt"):
+        max_size = limit_of(MAX_EVENT, "size_limit")
+        if len(name) + len(payload) > max_size and not wrong("no_size_limit_on_receipt"):
             return "Oversize"
         key = self.event_key(name, payload)
         taken = [kept for kept, _ in self.events.entries(time)]
@@ -224,7 +224,7 @@ class Agent:
             entry = object()
         return self.events.judge(time, entry, clock)
 
-    def take_event(self, time, name, payload):
+    def accept_event(self, time, name, payload):
         """Accepts an event if it is new. Returns why it isn't, or None."""
         clock = self.events.observed(time)
         reason = self.judge_event(time, name, payload, clock)
@@ -235,7 +235,7 @@ class Agent:
         return reason
 
     def receive_event(self, event, packet):
-        reason = self.take_event(event.LTime, event.Name, event.Payload)
+        reason = self.accept_event(event.LTime, event.Name, event.Payload)
         if reason is not None:
             return Reply("ignored", reason)
         reply = Reply("new")
@@ -284,7 +284,7 @@ class Agent:
     def merged(self, state, join, reply):
         if wrong("failed_join_is_heard_of"):
             self.merge_clocks(state)
-        self.tell_join(state, join)
+        self.write_join(state, join)
         if not wrong("merge_moves_clocks_at_its_end"):
             self.merge_clocks(state)
         before = self.events.minimum
@@ -293,7 +293,7 @@ class Agent:
             self.merge_slots(state.Events, reply)
             if wrong("merge_moves_clocks_at_its_end"):
                 self.merge_clocks(state)
-        except SinkFault:
+        except SinkError:
             reply.answer = "refused SinkFault"
             if wrong("refused_join_lifts_nothing"):
                 self.events.minimum = before
@@ -307,18 +307,18 @@ class Agent:
             return False
         return join or wrong("every_merge_ignores")
 
-    def tell_join(self, state, join):
+    def write_join(self, state, join):
         """Writes the minimum that a join sets, if events are kept. If this fails, the merge changes nothing."""
-        if not self.config.keeps or not self.ignores_old(join) or wrong("join_leaves_no_least_line"):
+        if not self.config.keeps or not self.ignores_old(join) or wrong("join_writes_no_minimum"):
             return
-        if state.EventLTime > self.events.minimum or not wrong("join_line_only_where_it_rises"):
-            self.snapshot.note_kept(kept.EVENTS, 0, kept.least_line(kept.EVENTS, state.EventLTime))
+        if state.EventLTime > self.events.minimum or not wrong("join_line_only_if_it_rises"):
+            self.snapshot.append_kept(kept.EVENTS, 0, kept.min_line(kept.EVENTS, state.EventLTime))
 
     def lift_minimum(self, state, join):
         if not self.ignores_old(join):
             return
-        least = self.events.clock if wrong("minimum_of_own_clock") else state.EventLTime
-        self.events.minimum = least if wrong("join_sets_minimum") else max(self.events.minimum, least)
+        minimum = self.events.clock if wrong("minimum_of_own_clock") else state.EventLTime
+        self.events.minimum = minimum if wrong("join_sets_minimum") else max(self.events.minimum, minimum)
 
     def merge_slots(self, slots, reply):
         if wrong("merge_in_order_of_times"):
@@ -326,7 +326,7 @@ class Agent:
         for held in slots:
             events = held.Events[:1] if wrong("merge_takes_first_of_slot") else held.Events
             for event in events:
-                reason = self.take_event(held.LTime, event.Name, event.Payload)
+                reason = self.accept_event(held.LTime, event.Name, event.Payload)
                 if reason is None and not wrong("merge_hands_out_nothing"):
                     reply.events.append(event_line(held.LTime, event.Name, event.Payload, False))
                 if reason is not None and wrong("merge_stops_at_an_ignored_event"):
@@ -334,7 +334,7 @@ class Agent:
 
     def save(self):
         self.running()
-        self.snapshot.note("clock", self.member if wrong("clock_line_of_the_clock") else self.member - 1)
+        self.snapshot.append_clock("clock", self.member if wrong("clock_line_of_the_clock") else self.member - 1)
         return Reply("saved")
 
     def compact(self):
@@ -350,21 +350,21 @@ class Agent:
         return events + self.lines_held(kept.QUERIES, self.queries, kept.query_line)
 
     def lines_held(self, kind, window, line):
-        least = self.least_told(window, kind)
-        held = window.held_from(0 if wrong("compaction_leaves_old_lines") else least)
+        minimum = self.compacted_minimum(window, kind)
+        held = window.held_from(0 if wrong("compaction_leaves_old_lines") else minimum)
         if wrong("compaction_drops_a_held_line"):
             held = held[1:]
-        front = b"" if wrong("compaction_tells_no_least_time") else kept.least_line(kind, least)
+        front = b"" if wrong("compaction_writes_no_minimum") else kept.min_line(kind, minimum)
         return front + b"".join(line(time, entry) for time, entry in held)
 
-    def least_told(self, window, kind):
+    def compacted_minimum(self, window, kind):
         """The minimum that a compaction writes: times below it must not be accepted, or the window has passed them.
 
         The next life begins one above the last clock line. So the window is counted from there: the clock can be far above it.
         """
         last = self.snapshot.values[kind]
         reach = max(last + 1 - window.size, 0)
-        if wrong("compaction_tells_the_minimum_alone"):
+        if wrong("compaction_writes_the_minimum_alone"):
             reach = 0
         if wrong("compaction_counts_from_the_clock"):
             reach = min(window.reach(), last + 1)
@@ -382,16 +382,16 @@ class Agent:
         time = self.queries.clock
         query = Query(time, query_id, b"", 0, self.config.name, filters, flags, 0, timeout, name, payload)
         packet = messages.encode_query(query)
-        most = 512 if wrong("query_limit_512") else self.packet_limits()[0]
+        max_size = 512 if wrong("query_limit_512") else self.packet_limits()[0]
         if timeout == 0 and wrong("zero_timeout_before_too_large"):
             raise Refusal("ZeroTimeout")
-        if len(packet) > most and not wrong("query_of_any_size"):
+        if len(packet) > max_size and not wrong("query_of_any_size"):
             raise Refusal("TooLarge")
         if timeout == 0 and not wrong("zero_timeout_accepted"):
             raise Refusal("ZeroTimeout")
-        if time >= GREATEST:
+        if time >= MAX_UINT64:
             raise Refusal("Exhausted")
-        opened = OpenQuery(query_id, min(now + timeout, GREATEST), bool(flags & ACK))
+        opened = OpenQuery(query_id, min(now + timeout, MAX_UINT64), bool(flags & ACK))
         if wrong("failed_query_is_open"):
             self.open[time] = opened
         self.keep_query(time, query_id)
@@ -406,8 +406,8 @@ class Agent:
 
     def keep_query(self, time, query_id):
         """Accepts a query: its line first, then its entry and the clock."""
-        self.note(kept.QUERIES, time, kept.query_line(time, query_id))
-        self.queries.enter(time, self.query_key(query_id))
+        self.append_lines(kept.QUERIES, time, kept.query_line(time, query_id))
+        self.queries.insert(time, self.query_key(query_id))
         self.move_query_clock(self.queries.observed(time))
 
     def move_query_clock(self, clock):
@@ -423,11 +423,11 @@ class Agent:
         if (asks or wrong("ack_always")) and not wrong("ack_never"):
             ack = messages.encode_response(Response(query.LTime, ack_id, self.config.name, ACK, b""))
             reply.packets.insert(0 if wrong("ack_before_the_query") else len(reply.packets), ack)
-        deadline = min(now + max(query.Timeout, 0), GREATEST)
+        deadline = min(now + max(query.Timeout, 0), MAX_UINT64)
         if query.Timeout < 0 and wrong("negative_timeout_never_ends"):
-            deadline = GREATEST
-        self.handed.append(HandedQuery(query.LTime, query.ID, deadline))
-        number = len(self.handed) - 1
+            deadline = MAX_UINT64
+        self.pending_queries.append(PendingQuery(query.LTime, query.ID, deadline))
+        number = len(self.pending_queries) - 1
         reply.handed.append(f"handed {number} {query.LTime} {query.ID} {hexed(query.Name)} {hexed(query.Payload)}")
 
     def receive_query(self, query, packet, now):
@@ -452,16 +452,16 @@ class Agent:
     def respond(self, number, now, payload):
         if wrong("stopped_refuses_respond"):
             self.running()
-        if number >= len(self.handed) or self.handed[number] is None:
+        if number >= len(self.pending_queries) or self.pending_queries[number] is None:
             raise Refusal("NoQuery")
-        query = self.handed[number]
+        query = self.pending_queries[number]
         packet = messages.encode_response(Response(query.time, query.id, self.config.name, 0, payload))
         if is_past(now, query.deadline):
             raise Refusal("PastDeadline")
         if len(packet) > self.packet_limits()[1] and not wrong("response_of_any_size"):
             raise Refusal("TooLarge")
         if not wrong("respond_twice"):
-            self.handed[number] = None
+            self.pending_queries[number] = None
         reply = Reply("replied")
         reply.packets.append(packet)
         return reply
@@ -475,7 +475,7 @@ class Agent:
             return "OtherId"
         if is_past(now, query.deadline):
             return "NotOpen" if wrong("closed_is_not_open") else "Closed"
-        if is_ack and not query.wants_acks and not wrong("ack_counts_unasked"):
+        if is_ack and not query.wants_acks and not wrong("ack_counts_unrequested"):
             return "AckNotAsked"
         if is_ack and answer.From in query.acks and not wrong("ack_counts_twice"):
             return "AckTwice"
@@ -515,8 +515,8 @@ class Agent:
     def message(self, packet):
         try:
             return messages.decode(packet)
-        except Fault as fault:
-            raise Refusal(f"Wire {fault}") from None
+        except WireError as error:
+            raise Refusal(f"Wire {error}") from None
 
     def deliver(self, packet, now):
         if not self.is_taken_stopped(packet):

@@ -4,11 +4,14 @@ An event is a tuple of its time, its name and its payload.
 """
 
 from .kept import event_of, number_of
-from .snapshot import GREATEST_VALUE, lines_of
+from .snapshot import MAX_VALUE, lines_of
 from .switches import wrong
 
 # The first words of these lines.
 EVENT, OPEN, BEGUN, DONE = b"#event", b"#open", b"#begun", b"#done"
+
+# The maximum length of an event's texts together that a restart restores. It says nothing of handlers.
+TEXTS_RESTORED = 9216
 
 
 # Lines as they are written
@@ -38,7 +41,7 @@ def done_up_to_line(time):
 # Lines as they are read
 
 
-def event_behind(word, line):
+def event_after(word, line):
     """The event after a line's first word, or None. It is written like that of an `#event` line."""
     if not line.startswith(word + b" "):
         return None
@@ -52,7 +55,7 @@ def time_done(line):
     """The time up to which all events above a line are done, or None."""
     if not line.startswith(DONE + b" "):
         return None
-    time = number_of(line[len(DONE) + 1 :], GREATEST_VALUE)
+    time = number_of(line[len(DONE) + 1 :], MAX_VALUE)
     return None if time == 0 and wrong("done_up_to_zero_passed_over") else time
 
 
@@ -74,13 +77,19 @@ class OpenEvents:
     """The open events, in the order in which they were opened, and for each of them whether its handler has begun."""
 
     def __init__(self):
-        self.begun = {}
+        self.begun, self.early = {}, set()
 
     def hand_out(self, event):
+        if sum(map(len, event[1:])) > TEXTS_RESTORED and wrong("large_events_are_not_open"):
+            return
         if event not in self.begun or wrong("opened_twice_waits_again"):
-            self.begun[event] = False
+            self.begun[event] = event in self.early and wrong("begun_line_counts_later")
 
     def begin(self, event):
+        self.early.add(event)
+        if event in self.begun and wrong("what_began_is_listed_last"):
+            del self.begun[event]
+            self.begun[event] = True
         if event in self.begun or wrong("begun_line_opens"):
             self.begun[event] = True
 
@@ -91,21 +100,24 @@ class OpenEvents:
 
     def end_up_to(self, time):
         if wrong("done_up_to_ends_all"):
-            time = GREATEST_VALUE
+            time = MAX_VALUE
         if wrong("done_up_to_leaves_its_time"):
             time -= 1
+        if wrong("done_up_to_leaves_what_began"):
+            self.begun = {event: has_begun for event, has_begun in self.begun.items() if event[0] > time or has_begun}
+            return
         self.begun = {event: has_begun for event, has_begun in self.begun.items() if event[0] > time}
 
     def read(self, line):
-        if event_behind(EVENT, line):
-            self.hand_out(event_behind(EVENT, line))
-        elif event_behind(OPEN, line):
+        if event_after(EVENT, line):
+            self.hand_out(event_after(EVENT, line))
+        elif event_after(OPEN, line):
             if not wrong("open_lines_passed_over"):
-                self.hand_out(event_behind(OPEN, line))
-        elif event_behind(BEGUN, line):
-            self.begin(event_behind(BEGUN, line))
-        elif event_behind(DONE, line):
-            self.end(event_behind(DONE, line))
+                self.hand_out(event_after(OPEN, line))
+        elif event_after(BEGUN, line):
+            self.begin(event_after(BEGUN, line))
+        elif event_after(DONE, line):
+            self.end(event_after(DONE, line))
         elif time_done(line) is not None:
             self.end_up_to(time_done(line))
 

@@ -5,10 +5,10 @@ There are lines of events, of queries, and of minimum times. Each begins with `#
 
 import re
 
-from .snapshot import GREATEST_VALUE, KINDS, lines_of, number_in, value_of
+from .snapshot import MAX_VALUE, KINDS, lines_of, number_in, value_of
 from .switches import wrong
 
-GREATEST_ID = (1 << 32) - 1
+MAX_ID = (1 << 32) - 1
 
 DIGITS = re.compile(rb"[0-9]+\Z")
 PAIRS = re.compile(rb"([0-9a-fA-F]{2})*\Z")
@@ -31,21 +31,21 @@ def query_line(time, query_id):
     return f"#query {time} {query_id}\n".encode()
 
 
-def least_line(kind, least):
-    return f"#least {kind}: {least}\n".encode()
+def min_line(kind, minimum):
+    return f"#least {kind}: {minimum}\n".encode()
 
 
 # Lines as they are read
 
 
-def number_of(digits, most):
-    """The number that the digits write, if it is at most `most`, or None."""
-    if not DIGITS.match(digits) or number_in(digits) > most:
+def number_of(digits, largest):
+    """The number that the digits write, if it is at most `largest`, or None."""
+    if not DIGITS.match(digits) or number_in(digits) > largest:
         return None
     return number_in(digits)
 
 
-def words_behind(front, line):
+def words_after(front, line):
     """The words after a line's first one, between single spaces. If the line begins otherwise, there are none."""
     if not line.startswith(front + b" "):
         return []
@@ -54,19 +54,19 @@ def words_behind(front, line):
 
 def event_of(line):
     """The event of a line, as time, name and payload, or None."""
-    words = words_behind(b"#event", line)
+    words = words_after(b"#event", line)
     if len(words) != 3 or not all(PAIRS.match(word) for word in words[1:]):
         return None
-    time = number_of(words[0], GREATEST_VALUE)
+    time = number_of(words[0], MAX_VALUE)
     return (time, *(bytes.fromhex(word.decode("ascii")) for word in words[1:])) if time else None
 
 
 def query_of(line):
     """The query of a line, as time and ID, or None."""
-    words = words_behind(b"#query", line)
+    words = words_after(b"#query", line)
     if len(words) != 2:
         return None
-    time, query_id = number_of(words[0], GREATEST_VALUE), number_of(words[1], GREATEST_ID)
+    time, query_id = number_of(words[0], MAX_VALUE), number_of(words[1], MAX_ID)
     return (time, query_id) if time and query_id is not None else None
 
 
@@ -82,11 +82,11 @@ def queries_in(text):
     return [query for query in map(query_of, lines_of(text)) if query]
 
 
-def least_of_line(line, kind):
+def min_of_line(line, kind):
     """The minimum that a line has for a kind, or 0."""
     front = f"#least {kind}: ".encode()
-    if line.startswith(front) and DIGITS.match(line[len(front) :]) and not wrong("least_lines_passed_over"):
-        return min(number_in(line[len(front) :]), GREATEST_VALUE + 1)
+    if line.startswith(front) and DIGITS.match(line[len(front) :]) and not wrong("min_lines_passed_over"):
+        return min(number_in(line[len(front) :]), MAX_VALUE + 1)
     value = value_of(line, kind)
     if value is None or wrong("clock_line_without_a_zero_passed_over"):
         return 0
@@ -96,7 +96,7 @@ def least_of_line(line, kind):
 
 def min_in(text, kind):
     """The minimum time of a kind in a text: the largest of its lines, and at least 1."""
-    found = [least_of_line(line, kind) for line in lines_of(text)]
-    if wrong("last_least_line_wins"):
-        found = [least for least in found if least][-1:]
+    found = [min_of_line(line, kind) for line in lines_of(text)]
+    if wrong("last_min_line_wins"):
+        found = [minimum for minimum in found if minimum][-1:]
     return max([1, *found])

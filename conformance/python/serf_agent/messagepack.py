@@ -20,7 +20,7 @@ FRACTIONS = {0xCA: 4, 0xCB: 8}
 EXTENSIONS = {0xD4: 2, 0xD5: 3, 0xD6: 5, 0xD7: 9, 0xD8: 17}
 
 
-class Fault(Exception):
+class WireError(Exception):
     """Why a packet is no message, in the words of a trace."""
 
 
@@ -47,10 +47,10 @@ class Reader:
         return found
 
     def truncated(self, first):
-        return Fault(f"Truncated {len(self.data) if wrong('truncated_at_the_end') else first}")
+        return WireError(f"Truncated {len(self.data) if wrong('truncated_at_the_end') else first}")
 
     def unsupported(self, first, byte):
-        return Fault(f"Unsupported {byte} {self.place if wrong('unsupported_behind_its_byte') else first}")
+        return WireError(f"Unsupported {byte} {self.place if wrong('unsupported_after_its_byte') else first}")
 
     def raw(self, first, length, is_bin=False):
         if self.place + length > len(self.data):
@@ -62,7 +62,7 @@ class Reader:
     def deeper(self, first, depth):
         deepest = next((count for name, count in OTHER_DEPTHS.items() if wrong(name)), DEEPEST)
         if depth >= deepest:
-            raise Fault(f"TooDeep {first}")
+            raise WireError(f"TooDeep {first}")
         return depth + 1
 
     def array(self, first, count, depth):
@@ -77,7 +77,7 @@ class Reader:
     def value(self, depth=0):
         first = self.place
         if first >= len(self.data):
-            raise Fault(f"Truncated {first}")
+            raise WireError(f"Truncated {first}")
         byte = self.data[first]
         self.place += 1
         if byte < 0x80:
@@ -141,7 +141,7 @@ def whole(data, place):
     reader = Reader(data, place)
     found = reader.value()
     if reader.place < len(data) and not wrong("trailing_bytes_accepted"):
-        raise Fault(f"Trailing {len(data) - 1 if wrong('trailing_at_the_last_byte') else reader.place}")
+        raise WireError(f"Trailing {len(data) - 1 if wrong('trailing_at_the_last_byte') else reader.place}")
     return found
 
 
@@ -157,9 +157,9 @@ def pack_int(n):
     raise OverflowError(n)
 
 
-def pack_head(count, small, most, two, four):
+def pack_head(count, small, max_small, two, four):
     """The head of a raw, an array or a map."""
-    if count <= most:
+    if count <= max_small:
         return bytes([small + count])
     if count < 1 << 16:
         return bytes([two]) + count.to_bytes(2, "big")

@@ -3,13 +3,13 @@
 from collections import namedtuple
 
 from . import messagepack as pack
-from .messagepack import Fault
+from .messagepack import WireError
 from .switches import wrong
 
 PUSH_PULL, USER_EVENT, QUERY, RESPONSE = 2, 3, 4, 5
 FOREIGN = (0, 1, 6, 7, 8, 9)
 
-GREATEST = (1 << 64) - 1
+MAX_UINT64 = (1 << 64) - 1
 
 UserEvent = namedtuple("UserEvent", "LTime Name Payload CC")
 Query = namedtuple("Query", "LTime ID Addr Port SourceNode Filters Flags RelayFactor Timeout Name Payload")
@@ -25,7 +25,7 @@ def kind_of(value, kind, zero):
     if value.kind == "nil" and not wrong("nil_refused"):
         return zero
     if value.kind != kind:
-        raise Fault(f"WrongKind {value.place}")
+        raise WireError(f"WrongKind {value.place}")
     return value.of
 
 
@@ -39,19 +39,19 @@ def number(low, high, wider=None):
         if wider and wrong(wider) and found > high:
             return found
         if not low <= found <= high:
-            raise Fault(f"OutOfRange {value.place}")
+            raise WireError(f"OutOfRange {value.place}")
         return found
 
     return read
 
 
-unsigned_64 = number(0, GREATEST)
+unsigned_64 = number(0, MAX_UINT64)
 
 
 def time(value):
     found = unsigned_64(value)
-    if found == GREATEST and not wrong("greatest_time_accepted"):
-        raise Fault(f"GreatestTime {value.place}")
+    if found == MAX_UINT64 and not wrong("max_time_accepted"):
+        raise WireError(f"GreatestTime {value.place}")
     return found
 
 
@@ -69,24 +69,24 @@ def texts(value):
 
 def clock(value):
     """A clock of a state, which is not a time."""
-    return time(value) if wrong("greatest_clock_refused") else unsigned_64(value)
+    return time(value) if wrong("max_clock_refused") else unsigned_64(value)
 
 
 def answer_time(value):
-    return time(value) if wrong("greatest_answer_refused") else unsigned_64(value)
+    return time(value) if wrong("max_answer_refused") else unsigned_64(value)
 
 
 def key_of(key):
     if key.kind == "nil" and wrong("nil_is_a_key"):
         return b""
     if key.kind != "raw" or key.is_bin and wrong("bin_keys_refused"):
-        raise Fault(f"BadKey {key.place}")
+        raise WireError(f"BadKey {key.place}")
     return b"" if key.is_bin and wrong("bin_keys_unknown") else key.of
 
 
 def status_time(value):
     if value.kind == "nil" and wrong("nil_status_time_refused"):
-        raise Fault(f"WrongKind {value.place}")
+        raise WireError(f"WrongKind {value.place}")
     return clock(value)
 
 
@@ -95,7 +95,7 @@ def status_times(value):
     for key, item in kind_of(value, "map", []):
         name = key_of(key)
         if name in found and wrong("node_twice_refused"):
-            raise Fault(f"Twice {key.place}")
+            raise WireError(f"Twice {key.place}")
         found[name] = status_time(item)
     return list(found.items())
 
@@ -111,16 +111,16 @@ def fields_of(message, readers, pairs):
             name = {known.lower(): known for known in readers}.get(name.lower(), name)
         if name not in readers:
             if wrong("unknown_keys_refused") or name in unknown and wrong("unknown_twice_refused"):
-                raise Fault(f"BadKey {key.place}")
+                raise WireError(f"BadKey {key.place}")
             unknown.add(name)
             continue
         if name in found and wrong("first_key_wins"):
             continue
         if name in found and not wrong("last_key_wins"):
-            raise Fault(f"Twice {value.place if wrong('twice_at_its_value') else key.place}")
+            raise WireError(f"Twice {value.place if wrong('twice_at_its_value') else key.place}")
         found[name] = readers[name][0](value)
     if "LTime" in readers and "LTime" not in found and wrong("time_has_to_be_there"):
-        raise Fault("NotAMap")
+        raise WireError("NotAMap")
     return message(*(found[name] if name in found else readers[name][1] for name in message._fields))
 
 
@@ -173,21 +173,21 @@ KINDS = {PUSH_PULL: (PushPull, STATE_FIELDS), USER_EVENT: (UserEvent, EVENT_FIEL
 def decode(packet):
     """The message that a packet spells, or its first error."""
     if not packet:
-        raise Fault("Empty")
+        raise WireError("Empty")
     kind = packet[0]
     if is_foreign(kind):
         if len(packet) == 1 and wrong("foreign_needs_a_body"):
-            raise Fault("Truncated 1")
+            raise WireError("Truncated 1")
         return Foreign(kind)
     if kind not in KINDS:
-        raise Fault(f"UnknownType {kind}")
+        raise WireError(f"UnknownType {kind}")
     if wrong("no_map_before_all_else") and packet[1:] and packet[1] & 0xF0 != 0x80 and packet[1] not in pack.MAPS:
-        raise Fault("NotAMap")
-    value = pack.whole(packet[1:], 0) if wrong("places_behind_the_type") else pack.whole(packet, 1)
+        raise WireError("NotAMap")
+    value = pack.whole(packet[1:], 0) if wrong("places_after_the_type") else pack.whole(packet, 1)
     if value.kind != "map" and wrong("no_map_is_empty"):
         return fields_of(*KINDS[kind], [])
     if value.kind != "map":
-        raise Fault("NotAMap")
+        raise WireError("NotAMap")
     return fields_of(*KINDS[kind], value.of)
 
 
@@ -278,8 +278,8 @@ def filter_passes(one, name):
     if one[0] != 0:
         return wrong("tag_filter_passes")
     try:
-        value = pack.Reader(one, 1).value() if wrong("bytes_behind_a_filter") else pack.whole(one, 1)
-    except Fault:
+        value = pack.Reader(one, 1).value() if wrong("bytes_after_a_filter") else pack.whole(one, 1)
+    except WireError:
         return wrong("unreadable_filter_passes")
     if value.kind != "array" or any(item.kind not in ("raw", "nil") for item in value.of):
         return wrong("unreadable_filter_passes")

@@ -1,7 +1,7 @@
 """The pipe: calls as lines in, replies as lines out."""
 
 from .agent import DEFAULT_QUERY_LIMIT, DEFAULT_RESPONSE_LIMIT, Agent, Config, Refusal, Reply
-from .snapshot import SinkFault
+from .snapshot import SinkError
 
 
 def unhexed(word):
@@ -33,7 +33,7 @@ class Pipe:
             return self.call(words[0].decode("latin-1"), words[1:]).lines()
         except Refusal as refusal:
             return [f"refused {refusal}"]
-        except SinkFault:
+        except SinkError:
             return ["refused SinkFault"]
 
     def call(self, name, words):

@@ -5,10 +5,10 @@ from .switches import wrong
 # The kinds of lines, in the order in which a compaction writes them.
 KINDS = ("clock", "event-clock", "query-clock")
 
-GREATEST_VALUE = (1 << 64) - 2
+MAX_VALUE = (1 << 64) - 2
 
 
-class SinkFault(Exception):
+class SinkError(Exception):
     """The disk failed."""
 
 
@@ -31,7 +31,7 @@ def value_of(line, kind):
     if wrong("leading_zeros_refused") and len(digits) > 1 and digits.startswith(b"0"):
         return None
     value = number_in(digits)
-    return value if value <= GREATEST_VALUE else None
+    return value if value <= MAX_VALUE else None
 
 
 def lines_of(text):
@@ -77,12 +77,12 @@ class Disk:
         if self.fails("append"):
             if wrong("half_a_line_is_kept"):
                 self.durable += line[: len(line) // 2]
-            raise SinkFault
+            raise SinkError
         self.written += line
 
     def flush(self):
         if self.fails("flush"):
-            raise SinkFault
+            raise SinkError
         self.durable += self.written
         self.written = b""
 
@@ -90,7 +90,7 @@ class Disk:
         if self.fails("replace"):
             if self.keeps_new:
                 self.durable = text
-            raise SinkFault
+            raise SinkError
         self.durable = text
 
 
@@ -107,12 +107,12 @@ class Snapshot:
     def guarded(self, call):
         try:
             call()
-        except SinkFault:
-            if not wrong("goes_on_after_a_failed_disk"):
+        except SinkError:
+            if not wrong("continues_after_a_failed_disk"):
                 self.stopped = True
             raise
 
-    def note(self, kind, value):
+    def append_clock(self, kind, value):
         """Writes the line of a kind if its value rises, and flushes it."""
         if value <= self.values[kind] and not wrong("each_line_is_written"):
             return
@@ -121,14 +121,14 @@ class Snapshot:
         self.guarded(lambda: self.keep(kind, value))
         self.values[kind] = max(value, self.values[kind])
 
-    def note_kept(self, kind, value, line):
+    def append_kept(self, kind, value, line):
         """Writes a line of what is kept, and, if the value rises, the line of its kind before it, with a single flush."""
         clock = b"" if value <= self.values[kind] else self.clock_line(kind, value)
         if wrong("no_kept_line_below_the_clock_line") and value and not clock:
             return
         if wrong("kept_line_without_its_clock_line"):
             clock = b""
-        self.guarded(lambda: self.flushed(line + clock if wrong("clock_line_behind_the_kept_line") else clock + line))
+        self.guarded(lambda: self.flushed(line + clock if wrong("clock_line_after_the_kept_line") else clock + line))
         self.values[kind] = max(value, self.values[kind])
 
     def clock_line(self, kind, value):

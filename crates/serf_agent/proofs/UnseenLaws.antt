@@ -1,10 +1,10 @@
 -- What an agent does doesn't depend on what its sink exposes of its bytes.
-use Rattle.serf_agent.proofs.Names.{Bool, Err, IfSome, List, MatchBool, None, Ok, Option, Result, Some, [], ap, append-nil, cond, false, inl, inr, map, nat_le, refl, subst, sym, true, ℕ, ◌++◌, ◌<◌, ◌==◌, ◌∙◌, ◌∷◌, ◌≡◌, ◌≢◌, ◌≤◌, option_map, All, AllPairs, decoded, Message, PushPull, Query, QueryResponse, foreign, push_pull, query, query_response, user_event, WireError, EventBody, clock_line, Device, FailurePlan, Observable, fresh_device, kept_bytes, Failed, KeepsEither, KeepsPart, Kept, MayReplaceBy, MayWrite, SnapshotView, Writing, durable_left_by, last_line, append_line_fails, written, ClockKind, AppendLineError, event_of, TimedEntry, AsksSink, Call, Ends, MayEnd, AppendsLine, Replaces, Step, answers, ended, is_sound, admission, fire, fire_error, fired_as, received_as, IdealAgent, with_snapshot, HandsOutNew, RemembersJoins, TakesNew, TakesNewQueries, BeginsDurable, DiskSuffices, IsDurable, KeepsAfter, StartsWithDurable, StaysDurable, Act, Asks, Closes, Compacts, Fires, Gets, Hears, Lived, MayAct, Opens, Saves, Takes, acted, after, fired_query_entries, fired_entries, first_life, got_entries, lived, OpensAfter, answer_ignore_reason, fired_query_at, counts_where, fire_query, is_ack, is_full, query_admission, query_at, query_error, query_fired_as, query_received_as, response_received_as, response_received_at, receive, receive_message, receive_read, HasPast, IsSound, compact, handed_by, hear, heard_by, receive_one, save, written_min_line, MayAppendLine, appended_with, text_with, TrackOf, asked_query, event_track, got_query, query_track, AsksLaterUnseen, FiresLaterUnseen, HandsOutNewUnseen, HandsOutOnceUnseen, HandsOutQueriesOnceUnseen, IsSame, IsUnseen, OpensUnseen, RemembersJoinsUnseen, TakesNewQueriesUnseen, TakesNewUnseen, UnseenLaws, hidden, hidden_call, hidden_life, hidden_snapshot, hidden_step, unseen, unseen_act, Config, OpenQuery, FireError, Fired, FiredQuery, MergeError, Outcome, QueryError, QueryParams, Reason, ReceiveError}
+use Rattle.serf_agent.proofs.Names.{Bool, Err, IfSome, List, MatchBool, None, Ok, Option, Result, Some, [], ap, append-nil, cond, false, inl, inr, map, nat_le, refl, subst, sym, true, ℕ, ◌++◌, ◌<◌, ◌==◌, ◌∙◌, ◌∷◌, ◌≡◌, ◌≢◌, ◌≤◌, option_map, All, All-head, All-tail, AllPairs, decoded, Message, PushPull, Query, QueryResponse, foreign, push_pull, query, query_response, user_event, WireError, EventBody, clock_line, Device, FailurePlan, Observable, fresh_device, kept_bytes, Failed, KeepsEither, KeepsPart, Kept, MayReplaceBy, MayWrite, SnapshotView, Writing, durable_left_by, last_line, append_line_fails, written, ClockKind, AppendLineError, event_of, TimedEntry, AsksSink, Call, Ends, MayEnd, AppendsLine, Replaces, Step, answers, ended, is_sound, admission, fire, fire_error, fired_as, received_as, IdealAgent, with_snapshot, HandsOutNew, RemembersJoins, TakesNew, TakesNewQueries, BeginsDurable, DiskSuffices, IsDurable, KeepsAfter, StartsWithDurable, StaysDurable, Act, Asks, Closes, Compacts, Fires, Gets, Hears, Lived, MayAct, MayLive, Opens, Saves, Takes, acted, after, fired_query_entries, fired_entries, first_life, got_entries, lived, OpensAfter, answer_ignore_reason, fired_query_at, counts_where, fire_query, is_ack, is_full, query_admission, query_at, query_error, query_fired_as, query_received_as, response_received_as, response_received_at, receive, receive_message, receive_read, HasPast, IsSound, compact, handed_by, hear, heard_by, receive_one, save, written_min_line, MayAppendLine, appended_with, text_with, TrackOf, asked_query, event_track, got_query, query_track, AsksLaterUnseen, FiresLaterUnseen, HandsOutNewUnseen, HandsOutOnceUnseen, HandsOutQueriesOnceUnseen, IsSame, IsUnseen, OpensUnseen, RemembersJoinsUnseen, TakesNewQueriesUnseen, TakesNewUnseen, UnseenLaws, hidden, hidden_call, hidden_life, hidden_snapshot, hidden_step, unseen, unseen_act, Config, OpenQuery, FireError, Fired, FiredQuery, MergeError, Outcome, QueryError, QueryParams, Reason, ReceiveError}
 use Rattle.serf_agent.specs.declared.outcome.ReceiveError.TheVariants as receives
 use Rattle.serf_agent.specs.Lives.{event_entry}
 use Rattle.serf_agent.proofs.KeptLifeLaws.{durable-lived, may-open}
 use Rattle.serf_agent.proofs.LifeLaws.{Below, keeps, keeps-first, later, once, queries_later, queries_once, text-of-flushed}
-use Rattle.serf_agent.specs.Unseen.{Seen}
+use Rattle.serf_agent.specs.Unseen.{Seen, SeenAll}
 use Rattle.serf_agent.proofs.LineLaws.{compacts_so, saves_so}
 
 -- ---- how a call ends
@@ -241,8 +241,17 @@ lives (a ∷ rest) s =
     let e : acted (hidden_life s) (unseen_act a) ≡ hidden_life (acted s a) = λ k. record { agent = m.agent k; events = s.events ++ m.events k; queries = s.queries ++ m.queries k } in
     ap (λ (t : Lived). lived t (map unseen_act rest)) e ∙ lives rest (acted s a)
 
+-- one act after another: after the first one, the agents are still the same but for what their sinks expose
+seen_all : (i : IdealAgent) (bs : List Act) → All IsUnseen bs → MayLive (hidden i) bs → SeenAll i bs
+seen_all i [] unseens may = record { acts = []; are = refl; may = tt }
+seen_all i (b ∷ bs) unseens may =
+    let first = seen i b (All-head IsUnseen b bs unseens) may.0 in
+    let next : after (hidden i) b ≡ hidden (after i first.act) = ap (after (hidden i)) (sym first.is) ∙ (same i first.act).agent in
+    let rest = seen_all (after i first.act) bs (All-tail IsUnseen b bs unseens) (subst (λ (j : IdealAgent). MayLive j bs) next may.1) in
+    record { acts = first.act ∷ rest.acts; are = (λ k. first.is k ∷ rest.are k); may = (first.may, rest.may) }
+
 pub unseen_laws : UnseenLaws
-unseen_laws = record { same = same; seen = seen; begins = λ config text d. refl; lives = lives }
+unseen_laws = record { same = same; seen = seen; seen_all = seen_all; begins = λ config text d. refl; lives = lives }
 
 -- ---- what is promised of lives
 

@@ -20,7 +20,7 @@ use Rattle.serf_agent.specs.Restart.{HasPast}
 use Rattle.serf_agent.specs.Sound.{IsSound}
 use Rattle.serf_agent.specs.Ideal.{IdealAgent, with_snapshot}
 use Rattle.serf_agent.specs.TrackOf.{TrackOf, event_track, queries_entered, query_track}
-use Rattle.serf_agent.specs.Lives.{Act, Fires, Asks, Gets, Hears, Takes, Saves, Compacts, Closes, Opens, Lived, MayAct, after, events_out, first_life, lived, queries_out}
+use Rattle.serf_agent.specs.Lives.{Act, Fires, Asks, Gets, Hears, Takes, Saves, Compacts, Closes, Opens, Lived, MayAct, MayLive, after, events_out, first_life, lived, queries_out}
 
 -- the same snapshot, over a sink that exposes nothing
 abbrev pub hidden_snapshot : SnapshotView → SnapshotView
@@ -75,12 +75,20 @@ pub record Seen (i : IdealAgent) (b : Act) : Type 0 where
   pub is : unseen_act act ≡ b
   pub may : MayAct i act
 
+-- The same is true of all that a program does: whatever acts may happen in order over a sink that exposes nothing, in
+-- all its lives, they may also happen as these acts.
+pub record SeenAll (i : IdealAgent) (bs : List Act) : Type 0 where
+  pub acts : List Act
+  pub are : map unseen_act acts ≡ bs
+  pub may : MayLive i acts
+
 abbrev pub hidden_life : Lived → Lived
 hidden_life s = record { agent = hidden s.agent; events = s.events; queries = s.queries }
 
 pub record UnseenLaws : Type 0 where
   pub same : (i : IdealAgent) (a : Act) → IsSame i a
   pub seen : (i : IdealAgent) (b : Act) → IsUnseen b → MayAct (hidden i) b → Seen i b
+  pub seen_all : (i : IdealAgent) (bs : List Act) → All IsUnseen bs → MayLive (hidden i) bs → SeenAll i bs
   pub begins : (config : Config) (text : List ℕ) (d : Device) → (first_life config text (hidden_device d)).agent ≡ hidden (first_life config text d).agent
   pub lives : (acts : List Act) (s : Lived) → lived (hidden_life s) (map unseen_act acts) ≡ hidden_life (lived s acts)
 

@@ -1,4 +1,4 @@
-//! An agent of a Serf node, and how it is opened.
+//! An agent of a Serf node, and how to open it.
 
 ghost use Rattle.std.specs.Prelude.{◌≡◌, ◌≢◌, ◌↔◌, ◌<◌, ◌≤◌, ◌+◌, ◌-◌, ◌^◌, false, true, List, [], ◌∷◌, ◌++◌, map, length, OnOk, OnErr, IfOk, IfErr, IfSome, IsErrOf, IsOk};
 ghost use Rattle.std.specs.Option.{option_map};
@@ -16,14 +16,14 @@ use crate::config::Config;
 use crate::laws::{kept_restart_laws, sound_snapshots};
 use crate::open_queries::OpenQueries;
 use crate::outcome::{NotOpened, OpenError};
-use crate::reopening::{FirstTracks, first_tracks};
+use crate::reopening::{OpeningTracks, read_opening_tracks};
 use crate::track::{EventTrack, QueryTrack};
 use serf_lamport::Clock;
 use serf_snapshot::{Sink, Snapshot};
 use std::alloc::Global;
 use std::marker::Model;
 
-/// An agent: its clocks, what it remembers of events and queries, and its snapshot on a sink.
+/// An agent: its clocks, its memory of events and queries, and its snapshot on a sink.
 pub struct Agent<S: Sink> {
     pub(crate) config: Config,
     pub(crate) member_clock: Clock,
@@ -33,7 +33,7 @@ pub struct Agent<S: Sink> {
     pub(crate) snapshot: Snapshot<S>,
 }
 
-/// This is written out so that a crate above doesn't have to prove again that each part can be dropped.
+/// `Drop` is implemented by hand, so that dependent crates need not prove again that the fields can be dropped.
 impl<S: Sink + Drop> Drop for Agent<S> {
     fn drop(self) {
         let Agent {
@@ -71,26 +71,26 @@ impl<S: Sink> Model for Agent<S> {
 
 impl<S: Sink> Agent<S> {
     /// Opens an agent over a sink that holds `text`. If the text is empty, this is the node's first agent. Otherwise it
-    /// is the node's agent in a new life, and its settings may differ from those before.
+    /// is the node's agent in a new life, and its settings may differ from those of earlier lives.
     ///
-    /// The agent continues from the text like the agent that wrote its lines: its clocks and its minimum times are
-    /// above everything that was handed out before. If the settings keep events, the minimum times are those of the
-    /// text instead, and the buffers restore the events and the queries that the text keeps. The agent then knows that
-    /// each of these was handed out.
+    /// The new agent continues like the agent that wrote the text's lines: its clocks and its minimum times are above
+    /// everything that was handed out before. If the settings keep events, the minimum times are those of the text
+    /// instead, and the buffers restore the events and the queries that the text keeps. The agent then knows that each
+    /// of these was handed out.
     ///
     /// The errors are:
     /// - `BadConfig` if the settings are out of bounds;
     /// - `OutOfMemory`, which can occur only if the last line of the text is torn or the settings keep events;
-    /// - `SinkError` if the last line is torn and the sink failed when this line was to be ended.
+    /// - `SinkError` if the last line is torn and the sink failed to end this line.
     ///
     /// Each error returns the settings and the sink. The first two leave the sink untouched. If the text is empty or
     /// ends in a newline, the sink isn't called. If in addition the settings keep no events, no memory is allocated,
-    /// because a slot is allocated only when a time enters it.
+    /// because a slot allocates memory only when an entry is inserted into it.
     pub fn open(alloc: Global, config: Config, text: &[u8], sink: S) -> Result<Self, NotOpened<S>>
         requires { HasText text.now (S.device sink) }
 
-        // For each agent whose times are in the text, and also everything that it entered if the settings keep events:
-        // whatever its settings were, the new agent is that agent in its next life.
+        // Take any agent whose times are in the text, and, if the settings keep events, everything that it entered as
+        // well. Whatever its settings were, the new agent is this agent in its next life.
         ensures restarted { (i : IdealAgent) → IsSound i → HasPast config i text.now
             → IfOk result (λ a. let next = with_config config i in
             (a.concrete ≡ view_of (restarted text.now (opened text.now (S.device sink)) next))
@@ -105,7 +105,7 @@ impl<S: Sink> Agent<S> {
             (a.concrete ≡ view_of (restarted text.now o (unopened config o)))
             × IsSound (restarted text.now o (unopened config o))) }
 
-        // A whole text needs no call of the sink. If the sink has a plan, it fails exactly when the plan says so.
+        // If the text is whole, the sink isn't called. If the sink has a plan, it fails exactly as planned.
         ensures whole { IfErr result (λ e. is_whole text.now ≡ true
             → e.error ≢ OpenError.SinkError) }
         ensures ok_planned { OnOk result (is_whole text.now ≡ false
@@ -113,7 +113,7 @@ impl<S: Sink> Agent<S> {
         ensures planned { IfErr result (λ e. e.error ≡ OpenError.SinkError
             → IfSome (S.device sink).plan (λ p. append_line_fails p ≡ true)) }
 
-        // What an error returns.
+        // The contents of an error.
         ensures config { IfErr result (λ e. e.config ≡ config) }
         ensures bad { IfErr result (λ e. (e.error ≡ OpenError.BadConfig)
             ↔ (is_sound config ≡ false)) }
@@ -126,7 +126,7 @@ impl<S: Sink> Agent<S> {
         ensures decremented { IfErr result (λ e. e.error ≡ OpenError.SinkError
             → (S.device e.sink).plan ≡ option_map append_line_decremented (S.device sink).plan) }
     {
-        // (for the proof: what the snapshot records of its last lines is what its sink holds)
+        // (for the proof: the last lines that the snapshot records are those that its sink holds)
         sound_snapshots();
         kept_restart_laws();
         if !config.is_sound() {
@@ -137,7 +137,7 @@ impl<S: Sink> Agent<S> {
                 error,
             });
         }
-        let Ok(first) = first_tracks(alloc, &config, text) else {
+        let Ok(first) = read_opening_tracks(alloc, &config, text) else {
             return Err(NotOpened {
                 config,
                 sink,
@@ -155,7 +155,7 @@ impl<S: Sink> Agent<S> {
                 });
             }
         };
-        let FirstTracks {
+        let OpeningTracks {
             events,
             queries,
             ..

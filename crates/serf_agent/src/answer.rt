@@ -13,8 +13,8 @@ use serf_wire::{Message, QueryResponse, decode};
 /// Allocates no memory.
 ///
 /// After [`Agent::receive`](crate::Agent::receive) has returned `Ack` or `Response`, call this with the same packet to
-/// see which query was answered, by which node, and with what payload. It is exactly what was counted (`ack` and
-/// `response` in the definition `TakesPacket`). The agent doesn't keep the payload of an ack.
+/// see which query was answered, by which node, and with what payload. The result is exactly the answer that the agent
+/// counted (`ack` and `response` in the definition `TakesPacket`). The agent doesn't keep the payload of an ack.
 pub fn answer_in(packet: &[u8]) -> Option<QueryResponse<'_>>
     ensures { option_map response_said result ≡ answer_in packet.now }
 {

@@ -1,4 +1,4 @@
-//! The open queries of an agent, borrowed, and the moment after which the first of them closes.
+//! Borrows an agent's open queries, and finds the moment after which the first of them closes.
 
 ghost use Rattle.std.specs.Prelude.{◌≡◌, ◌<◌, ◌↔◌, ℕ, Some, IsSomeAnd, filter, length, map};
 ghost use Rattle.serf_agent.specs.BorrowedQueries.{lowest, smaller, queries_left};
@@ -9,7 +9,7 @@ use crate::open_query::OpenQuery;
 use indexmap::map::Iter;
 use serf_snapshot::Sink;
 
-/// An iterator over open queries: each with its time, in the order in which they were fired.
+/// An iterator over open queries and their times, in the order in which the queries were fired.
 #[derive(Drop)]
 pub struct BorrowedQueries<'a> {
     queries: Iter<'a, u64, OpenQuery>,
@@ -53,8 +53,8 @@ fn min_deadline(queries: &[OpenQuery]) -> Option<u64>
 }
 
 impl<S: Sink> Agent<S> {
-    /// The queries that this agent fired and that still accept answers, each with its time, in the order in which they
-    /// were fired. Allocates no memory.
+    /// Iterates over the queries that this agent fired and that still accept answers, with their times, in the order in
+    /// which they were fired. Allocates no memory.
     pub fn open_queries(&self) -> BorrowedQueries<'_>
         ensures { queries_left result ≡ self.now.concrete.fired_queries }
     {
@@ -63,8 +63,8 @@ impl<S: Sink> Agent<S> {
         }
     }
 
-    /// The earliest deadline of the open queries, in nanoseconds, or `None` if no query is open. `close_due` closes at
-    /// least one query if its moment is later than this, and none otherwise. Allocates no memory.
+    /// The earliest deadline of the open queries, in nanoseconds, or `None` if no query is open. At a moment later than
+    /// this, `close_due` closes at least one query; at any other moment it closes none. Allocates no memory.
     pub fn next_deadline(&self) -> Option<u64>
         ensures { (now : ℕ) → IsSomeAnd result (λ deadline. deadline < now)
             ↔ (0 < length (filter (is_due now) self.now.concrete.fired_queries)) }

@@ -14,14 +14,14 @@ pub const MAX_NAME_BYTES: usize = 128;
 /// `serf.go`: `UserEventSizeLimit`).
 pub const MAX_TEXT_BYTES: usize = 9216;
 
-/// The maximum that the settings allow as the limit for the packet of a fired query, or of a response, in bytes.
+/// The largest limit, in bytes, that the settings allow for the packet of a fired query or of a response.
 pub const MAX_PACKET_LIMIT: u64 = 9216;
 
-/// The maximum number of names that an agent counts among the acks of a query, and the same among its responses.
+/// The largest limit that the settings allow for the nodes whose acks to a query are counted, and for its responses.
 pub const MAX_RESPONDERS: u64 = 65536;
 
-/// An agent's settings (Serf's `config.go`). The bounds are this project's own. An agent isn't opened with settings
-/// outside them.
+/// An agent's settings (Serf's `config.go`). The bounds are this project's own. Opening an agent with settings that are
+/// out of bounds is an error.
 #[derive(Drop)]
 pub struct Config {
     /// The node's name: 1 to 128 bytes.
@@ -37,19 +37,19 @@ pub struct Config {
     pub query_limit: u64,
     /// The maximum length of a response's packet, in bytes: at most 9,216. Serf has 1,024.
     pub response_limit: u64,
-    /// The maximum number of names that are counted among the acks of a query, and among its responses: 1 to 65,536.
+    /// The maximum number of nodes whose acks to a query are counted, and the same for responses: 1 to 65,536.
     pub responders: u64,
-    /// The maximum number of events, or of queries, that are accepted of one time: 1 to 65,536.
+    /// The maximum number of events, or of queries, that are accepted with the same time: 1 to 65,536.
     pub per_time: u64,
     /// Whether a join raises the minimum time of events to the other agent's event clock.
     pub ignore_old: bool,
-    /// Whether the snapshot keeps each event and each query in a separate line, and a restart restores them. Serf keeps
-    /// none.
+    /// Whether the snapshot keeps each event and each query in a separate line, and a restart restores them. Serf's
+    /// snapshots keep none of them.
     pub keep_events: bool,
 }
 
 impl Config {
-    /// Whether an agent can have these settings. Allocates no memory.
+    /// Whether all settings are within their bounds. Allocates no memory.
     pub fn is_sound(&self) -> bool
         ensures { result ≡ is_sound self.now }
     {

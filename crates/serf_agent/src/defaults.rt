@@ -20,11 +20,12 @@ pub const DEFAULT_QUERY_LIMIT: u64 = 1024;
 /// The maximum length of a response's packet, in bytes (`DefaultConfig`: `QueryResponseSizeLimit`).
 pub const DEFAULT_RESPONSE_LIMIT: u64 = 1024;
 
-/// The maximum number of names that are counted among a query's acks, and among its responses. This setting is this
+/// The maximum number of nodes whose acks to a query are counted, and the same for responses. This setting is this
 /// project's own.
 pub const DEFAULT_RESPONDERS: u64 = 1024;
 
-/// The maximum number of events, or of queries, that are accepted of one time. This setting is this project's own.
+/// The maximum number of events, or of queries, that are accepted with the same time. This setting is this project's
+/// own.
 pub const DEFAULT_PER_TIME: u64 = 1024;
 
 /// The number of bytes that a snapshot may have before a compaction is worth doing (`serf.go`: `snapshotSizeLimit`).
@@ -32,9 +33,9 @@ pub const DEFAULT_PER_TIME: u64 = 1024;
 pub const DEFAULT_SNAPSHOT_LIMIT: u64 = 128 * 1024;
 
 impl Config {
-    /// Makes the default settings for a node of this name. These are Serf's defaults, and this project's if Serf has
-    /// none. A join doesn't raise the minimum time of events, and no event is kept over a restart. Returns `AllocError`
-    /// if there is no memory for the name.
+    /// Makes the default settings for a node of this name. They are Serf's defaults, or this project's if Serf has
+    /// none. By default, a join doesn't raise the minimum time of events, and no event is kept over a restart. Returns
+    /// `AllocError` if there is no memory for the name.
     pub fn new(alloc: Global, name: &[u8]) -> Result<Config, AllocError>
         ensures config { IfOk result (λ config. config ≡ default_config name.now) }
         ensures sound { IfOk result (λ config. is_sound config

@@ -1,4 +1,4 @@
-//! How the errors of the crates below are converted to the errors of an agent's calls.
+//! Converts the errors of the crates below to the errors of an agent's calls.
 
 use crate::outcome::{FireError, MergeError, OpenError, QueryError, ReceiveError};
 use serf_snapshot::{AppendLineError, SealError};

@@ -1,4 +1,4 @@
-//! User events: firing them, and receiving them.
+//! Firing user events, and receiving them.
 
 ghost use Rattle.std.specs.Prelude.{◌≡◌, ◌≢◌, ◌<◌, ◌≤◌, ◌+◌, false, None, length, Err, OnOk, OnErr, IfOk, IsErrOf};
 ghost use Rattle.serf_lamport.specs.Clock.{max_clock};
@@ -42,7 +42,7 @@ fn handed_out(alloc: Global, event: &UserEvent) -> Result<EventOut, AllocError>
     })
 }
 
-/// Encodes the packet of an event whose name and payload are short.
+/// Encodes the packet of an event whose name and payload together have at most 9,216 bytes.
 fn packet_of(alloc: Global, event: &UserEvent) -> Result<Bytes, AllocError>
     requires { length event.now.name.now + length event.now.payload.now ≤ max_text_bytes }
     ensures { IfOk result (λ packet. packet ≡ event_packet event.now.time
@@ -90,7 +90,7 @@ impl<S: Sink> Agent<S> {
             → Steps i (fire i (event_of name.now payload.now) coalesce)
             result self.old.device self.new }
 
-        // What is left of the sink, whatever it exposes of its bytes.
+        // The state of the sink after a success. This also holds for a sink that doesn't expose its bytes.
         ensures ok_device { IfOk result (λ f. self.new.device ≡ device_appended kinds.Event
             f.handed.time (written_event self.old.concrete.config f.handed.time
             (event_of name.now payload.now)) self.old.concrete.snapshot self.old.device) }
@@ -109,7 +109,7 @@ impl<S: Sink> Agent<S> {
         ensures cause { IsErrOf result FireError.SinkError
             → HasFailed self.old.device.failures self.new.device.failures }
     {
-        // (for the proof: what the snapshot records of its last lines is what its sink holds)
+        // (for the proof: the last lines that the snapshot records are those that its sink holds)
         sound_snapshots();
         if self.snapshot.is_stopped() {
             return Err(FireError::Stopped);
@@ -132,7 +132,7 @@ impl<S: Sink> Agent<S> {
         Ok(Fired { packet, handed })
     }
 
-    /// Why this event would be ignored, or `None` if it is new. Allocates no memory.
+    /// The reason to ignore this event, or `None` if the event is new. Allocates no memory.
     pub(crate) fn admission(&self, time: Time, name: &[u8], payload: &[u8]) -> Option<Reason>
         ensures reason { (i : IdealAgent) → IsSound i → self.now.concrete ≡ view_of i
             → result ≡ admission i time (event_of name.now payload.now) }
@@ -159,7 +159,7 @@ impl<S: Sink> Agent<S> {
             (event_of event.now.name.now event.now.payload.now) event.now.coalesce)
             None self.old self.new result }
     {
-        // (for the proof: what the snapshot records of its last lines is what its sink holds)
+        // (for the proof: the last lines that the snapshot records are those that its sink holds)
         sound_snapshots();
         match self.admission(event.time, event.name, event.payload) {
             Some(reason) => {
@@ -173,8 +173,8 @@ impl<S: Sink> Agent<S> {
         }
     }
 
-    /// Writes an event's line to the sink, inserts the event into the buffer after the line is durable, and returns
-    /// what is handed out.
+    /// Writes an event's line to the sink, inserts the event into the buffer after the line is durable, and returns the
+    /// event to hand out.
     pub(crate) fn accept(
         &mut self,
         alloc: Global,

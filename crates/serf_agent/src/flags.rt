@@ -6,7 +6,7 @@ ghost use Rattle.serf_agent.specs.Queries.{flags_of, has_flag};
 /// In a query, this flag requests acks; in a response, it marks an ack.
 pub(crate) const ACK: u32 = 1;
 
-/// In a query, this flag forbids nodes to rebroadcast it.
+/// In a query, this flag forbids nodes to rebroadcast the query.
 pub(crate) const NO_BROADCAST: u32 = 2;
 
 /// Whether the bit of `flag` is set in `flags`.

@@ -1,5 +1,5 @@
-//! What an agent would decide about an event or a query, without acting on it. These calls change nothing and allocate
-//! no memory.
+//! Returns what an agent would decide about an event or a query, without acting on it. These calls change nothing and
+//! allocate no memory.
 
 ghost use Rattle.std.specs.Prelude.{◌≡◌};
 ghost use Rattle.serf_window.specs.Texts.{event_of};
@@ -15,8 +15,8 @@ use serf_lamport::Time;
 use serf_snapshot::Sink;
 
 impl<S: Sink> Agent<S> {
-    /// Why a user event that arrives now would be ignored, or `None` if it is new. A stopped agent accepts nothing; the
-    /// result for it is the one that it would have if it were running.
+    /// The reason why the agent would ignore a user event that arrives now, or `None` if the event is new. A
+    /// stopped agent accepts nothing; for it, the result is the same as if it were running.
     pub fn judge_event(&self, time: Time, name: &[u8], payload: &[u8]) -> Option<Reason>
         ensures { (i : IdealAgent) → IsSound i → self.now.concrete ≡ view_of i
             → result ≡ admission i time (event_of name.now payload.now) }
@@ -24,8 +24,9 @@ impl<S: Sink> Agent<S> {
         self.admission(time, name, payload)
     }
 
-    /// Why a query that arrives now would be ignored, or `None` if it is new, whether or not its filters let this node
-    /// pass. A stopped agent accepts nothing; the result for it is the one that it would have if it were running.
+    /// The reason why the agent would ignore a query that arrives now, or `None` if the query is new, whether or
+    /// not its filters let this node pass. A stopped agent accepts nothing; for it, the result is the same as if it
+    /// were running.
     pub fn judge_query(&self, time: Time, id: u32) -> Option<Reason>
         ensures { (i : IdealAgent) → IsSound i → self.now.concrete ≡ view_of i
             → result ≡ query_admission i time id }

@@ -29,7 +29,7 @@ use serf_snapshot::{
 use serf_window::{recall_laws, slot_laws};
 use serf_wire::decoded_ranges;
 
-/// What a snapshot records of its last lines is what its sink holds. Does nothing.
+/// The last lines that a snapshot records are those that its sink holds. This function does nothing.
 #[inline(always)]
 pub(crate) fn sound_snapshots()
     ensures { SnapshotLaws }
@@ -39,13 +39,13 @@ pub(crate) fn sound_snapshots()
 }
 
 /// The promises about one agent over its own disk, in all its lives. They hold for every sequence of calls, whatever
-/// the sink does with each line, and with restarts in between. Each restart opens on a text that has what was flushed,
-/// with any bytes after it. Does nothing.
+/// the sink does with each line, and with restarts in between. Each restart opens the agent on a text that begins with
+/// everything that was flushed; any bytes may follow. This function does nothing.
 ///
-/// No event and no query is handed out twice. Whatever the agent fires is later than everything of its kind that was
-/// handed out before. The promises are about the ideal agent, whose history continues through its restarts. On any
-/// text, [`Agent::open`](crate::Agent::open) begins with an ideal agent (clause `first`), and each other call follows
-/// it (clauses `step` and `merged`).
+/// No event and no query is handed out twice. Each event or query that the agent fires is later than everything of its
+/// kind that was handed out before. The promises are about the ideal agent, whose history continues through its
+/// restarts. On any text, [`Agent::open`](crate::Agent::open) begins with an ideal agent (clause `first`), and each
+/// other call follows it (clauses `step` and `merged`).
 pub fn life_promises()
     ensures once { HandsOutOnce }
     ensures queries_once { HandsOutQueriesOnce }
@@ -59,7 +59,8 @@ pub fn life_promises()
     kept_restart_laws();
 }
 
-/// Each change of a sound agent leaves a sound agent, and an agent never admits what it entered before. Does nothing.
+/// A sound agent stays sound after each change, and never admits an event or a query a second time. This function does
+/// nothing.
 pub fn sound_steps()
     ensures sound { StaysSound }
     ensures admits { AdmitsNew }
@@ -68,13 +69,13 @@ pub fn sound_steps()
     kept_restart_laws();
 }
 
-/// No byte string in a packet that an agent sends is too long for its header. Does nothing.
+/// No byte string in a packet that an agent sends is too long for its header. This function does nothing.
 pub fn short_packets()
     ensures { ShortPackets }
 {}
 
-/// Laws of tracks that are kept over a restart: if the text has everything that was entered, the opening leaves a sound
-/// track that still has all of it. Does nothing.
+/// Laws of tracks that are kept over a restart. If the text has everything that was entered, the track is sound after
+/// the opening and still has all of it. This function does nothing.
 pub fn keeping_laws()
     ensures events { KeepingLaws EventBody same_texts }
     ensures queries { KeepingLaws ℕ same_id }
@@ -82,8 +83,9 @@ pub fn keeping_laws()
     recall_laws();
 }
 
-/// What a text keeps of what was handed out. No tail takes any of it away. Each entry is kept by its own line, or by a
-/// clock line of an agent that keeps no events. An opening restores everything that its window needs. Does nothing.
+/// Laws about the entries that were handed out and that a text keeps. A tail after the text removes none of them. Each
+/// entry is kept by its own line, or by a clock line of an agent that keeps no events. An opening restores everything
+/// that its window needs. This function does nothing.
 pub fn kept_text_laws()
     ensures events { KeptEventLaws }
     ensures queries { KeptQueryLaws }
@@ -93,8 +95,9 @@ pub fn kept_text_laws()
     query_line_laws();
 }
 
-/// An agent that keeps its events is opened again on a text that has everything that was entered. Then the agent is
-/// sound, it has entered what the text keeps, and the durable text still has everything that was entered. Does nothing.
+/// If an agent that keeps its events is opened again on a text that has everything that was entered, the agent is
+/// sound. It has entered everything that the text keeps, and the durable text still has everything that was entered.
+/// This function does nothing.
 pub fn kept_restart_laws()
     ensures { KeptRestartLaws }
 {
@@ -107,8 +110,8 @@ pub fn kept_restart_laws()
     sound_snapshots();
 }
 
-/// After each line that an agent with kept events appends, the durable text has everything that was entered. This also
-/// holds if the append fails. Does nothing.
+/// After an agent that keeps its events appends a line, the durable text has everything that was entered, even if the
+/// append fails. This function does nothing.
 pub fn kept_step_laws()
     ensures { KeptAppendLineLaws }
 {
@@ -116,8 +119,8 @@ pub fn kept_step_laws()
     kept_append_line_laws();
 }
 
-/// The text of a compaction that keeps what the buffers hold has everything that was entered, and the kept lines
-/// contain no clock line. Does nothing.
+/// If a compaction keeps the entries in the buffers, its text has everything that was entered. The lines that it keeps
+/// contain no clock line. This function does nothing.
 pub fn kept_compaction_laws()
     ensures { CompactionLaws }
 {
@@ -127,8 +130,8 @@ pub fn kept_compaction_laws()
     kept_append_line_laws();
 }
 
-/// The durable text of an agent that keeps no events also has everything that was entered, by its clock lines. A later
-/// life can therefore keep events. Does nothing.
+/// Even if an agent keeps no events, its durable text has everything that was entered, by its clock lines. A later life
+/// can therefore keep events. This function does nothing.
 pub fn unkept_laws()
     ensures { UnkeptLaws }
 {
@@ -139,25 +142,25 @@ pub fn unkept_laws()
     text_laws();
 }
 
-/// The durable text has everything that was entered in all lives of one agent, whatever its settings are in each of
-/// them, with `keep_events` or without it, in any order. A new life may therefore open on each text that begins with
-/// the durable text, with any bytes after it. Does nothing.
+/// The durable text has everything that was entered in all lives of one agent. Each life may have different settings,
+/// with `keep_events` or without it, in any order. A new life may therefore open on any text that begins with the
+/// durable text, whatever bytes follow. This function does nothing.
 ///
-/// This requires that whatever an act delivers can be written in a line: names and payloads of bytes, and query IDs
-/// below 2^32.
+/// This requires that every event or query that an act delivers can be written in a line: names and payloads have to be
+/// bytes, and query IDs have to be below 2^32.
 ///
 /// If the settings stay the same and keep events, nothing is missed. Suppose that an event is offered while the agent
 /// isn't stopped, and that it is new and within the window. Then it is handed out if the sink keeps its line. The only
-/// exception is a full time: as many events of its time as the settings allow, or more than that of a later time, were
-/// handed out or were in a text. The same holds for queries (clause `queries_taken`): a new query enters, and is handed
-/// out if its filters let the node pass.
+/// exception is a full time: as many events with this time as the settings allow, or more than that many events with a
+/// later time, were handed out or were in a text. The same holds for queries (clause `queries_taken`): a new query
+/// enters, and is handed out if its filters let the node pass.
 ///
-/// After a join that ignores old events, nothing below the minimum time that it set is handed out, in this life and in
-/// all later lives that keep events.
+/// After a join that ignores old events, no event below the join's minimum time is handed out, neither in this life nor
+/// in any later life that keeps events.
 ///
 /// The clauses `taking` and `queries_taking` state, call by call, the invariant by which nothing is missed. The clause
-/// `queries_said` states which queries the text keeps. They are for the proofs of crates above, whose runs are more
-/// than the lives of one agent.
+/// `queries_said` states which queries the text keeps. These clauses are for proofs in the crates above, whose runs
+/// consist of more than the lives of one agent.
 pub fn kept_life_promises()
     ensures begins { BeginsDurable }
     ensures stays { StaysDurable }
@@ -190,20 +193,20 @@ pub fn kept_life_promises()
     unkept_laws();
 }
 
-/// What an agent does doesn't depend on what its sink exposes of its bytes. Over a sink that exposes nothing, such as a
-/// file, it does the same and hands out the same. Everything that may happen over a sink of this kind may also happen
-/// over one that exposes its bytes. Does nothing.
+/// An agent does the same whether or not its sink exposes its bytes. Over a sink that exposes nothing, such as a file,
+/// it hands out the same events and queries. Everything that may happen over a sink of this kind may also happen over a
+/// sink that exposes its bytes. This function does nothing.
 pub fn unseen_laws()
     ensures { UnseenLaws }
 {}
 
 /// The promises about one agent over a sink that exposes none of its bytes, such as a file, with the setting
-/// `keep_events` or without it. Does nothing.
+/// `keep_events` or without it. This function does nothing.
 ///
-/// Each life opens on a text that begins with everything that was flushed, with any bytes after it. Then no event and
-/// no query is handed out twice, and whatever the agent fires is later than everything of its kind that was handed out
-/// before. If the settings stay the same and keep events, a new event is handed out, a new query enters, and the
-/// minimum time that a join set is remembered, as [`kept_life_promises`] states.
+/// Each life opens on a text that begins with everything that was flushed; any bytes may follow. Then no event and no
+/// query is handed out twice, and each event or query that the agent fires is later than everything of its kind that
+/// was handed out before. If the settings stay the same and keep events, a new event is handed out, a new query enters,
+/// and the minimum time that a join set is remembered, as [`kept_life_promises`] states.
 ///
 /// The clause `opens` states that [`Agent::open`](crate::Agent::open) accepts a text of this kind for the agent of each
 /// of these lives (clause `restarted`). So each call continues to follow the ideal agent, which forgets nothing.
@@ -235,10 +238,12 @@ pub fn unseen_promises()
     kept_life_promises();
 }
 
-/// What each call preserves about what was handed out, and that a sound agent stays sound. Does nothing.
+/// Laws of each step: no entry is handed out twice, and a sound agent stays sound. This function does nothing.
 ///
-/// If an entry is new to the history, or later than it, the same holds compared with what was handed out, even if some
-/// of the history was left out. Whatever is fired is later. This is for the proofs of crates above.
+/// An entry that isn't in the agent's history wasn't handed out either. An entry that is later than the whole history
+/// is later than everything that was handed out. Both stay true if the list of what was handed out leaves out some of
+/// the history. Each event or query that is fired is later than everything of its kind that was handed out before.
+/// These laws are for proofs in the crates above.
 pub fn once_steps()
     ensures stays { StaysOnce }
     ensures begins { BeginsOnce }

@@ -2,20 +2,20 @@
 //!
 //! [`Agent`] has three Lamport clocks, two windows of the latest user events and queries, the queries that it fired and
 //! that still accept answers, and a snapshot of clock lines on a sink. Its contracts compare it with an ideal agent,
-//! which keeps every event and query of all its lives and decides by that history alone. Each public call returns what
-//! the ideal agent returns if its sink does the same. What the agent then stores is the view of the resulting ideal
-//! agent.
+//! which keeps every event and query of all its lives and decides by that history alone. If the sinks of both agents
+//! behave alike, each public call returns the same result as the ideal agent. Afterwards, the agent stores exactly the
+//! view of the new ideal agent.
 //!
-//! Serf hands out an event before its clock line is written, and continues after a line that failed (`serf.go`,
+//! Serf hands out an event before its clock line is written, and continues after a line couldn't be written (`serf.go`,
 //! `delegate.go`, `snapshot.go`, `query.go`). This crate differs:
 //!
 //! - An event or a query is handed out only after its line is durable ([`Agent::receive`], [`Agent::fire`],
 //!   [`Agent::query`]).
-//! - The minimum times never fall ([`Agent::merge_remote_state`]), and a new life begins above everything that was
-//!   written ([`Agent::open`]).
+//! - The minimum times never fall ([`Agent::merge_remote_state`]), and the clocks of a new life begin above every time
+//!   that was written ([`Agent::open`]).
 //! - If the sink fails, the agent stops: it fires and accepts nothing until it is opened again.
-//! - If a call runs out of memory, it changes nothing, and you may call it again. Only a merge keeps the events that it
-//!   had already accepted.
+//! - If a call runs out of memory, it changes nothing, and you may call it again. The only exception is a merge, which
+//!   keeps the events that it had already accepted.
 //!
 //! The crate reads no clock and opens no socket: the caller passes in the moments, in nanoseconds, and the packets.
 #![tactic(auto)]

@@ -1,5 +1,5 @@
-//! An agent appends the lines of what it keeps to a text, or only counts their bytes. Both are outputs, so the same
-//! functions write the lines of a compaction and compute their length.
+//! Outputs for the lines that an agent keeps: a text collects the lines, and a counter only counts their bytes. So the
+//! same functions write the lines of a compaction and compute their length.
 
 ghost use Rattle.std.specs.Prelude.{◌≡◌, ◌-◌, ◌+◌, ◌^◌, min};
 
@@ -18,7 +18,7 @@ pub(crate) trait LineOutput {
     ghost use Rattle.std.specs.Prelude.{◌++◌, List, ℕ, OnOk};
     ghost use Rattle.serf_snapshot.specs.EventLines.{event_line, min_line, query_line};
 
-    /// Why an output may refuse a line. After an error, the output may contain a prefix of the line.
+    /// The reason why an output may refuse a line. After an error, the output may contain a prefix of the line.
     type Error: Drop;
 
     ghost has: { Self → List ℕ → Type 0 };
@@ -44,7 +44,7 @@ pub(crate) trait LineOutput {
             (before ++ min_line kind time)) };
 }
 
-/// A text contains the lines themselves.
+/// A vector of bytes collects the lines themselves.
 impl LineOutput for Vec<u8> {
     ghost use Rattle.std.specs.Prelude.{◌≡◌};
 
@@ -70,22 +70,22 @@ impl LineOutput for Vec<u8> {
     }
 }
 
-/// The number of bytes in lines that are counted and not written. A number above 2^64 - 1 is kept as 2^64 - 1. None of
-/// its calls allocates memory.
+/// Counts the bytes of lines without writing them. The count never exceeds 2^64 - 1. None of the calls allocates
+/// memory.
 #[derive(Drop)]
 pub(crate) struct ByteCount {
     total: u64,
 }
 
 impl ByteCount {
-    /// The count of no lines.
+    /// Makes a count of 0 bytes.
     pub(crate) fn new() -> ByteCount
         ensures { result.total ≡ 0 }
     {
         ByteCount { total: 0 }
     }
 
-    /// The number of bytes so far.
+    /// The number of bytes that were counted so far.
     pub(crate) fn total(&self) -> u64
         ensures { result ≡ self.now.total }
     {

@@ -1,4 +1,4 @@
-//! The member clock, for hosts that keep members.
+//! The member clock, for hosts that keep track of members.
 
 ghost use Rattle.std.specs.Prelude.{◌≡◌, ◌+◌, false};
 ghost use Rattle.serf_agent.specs.Ideal.{IdealAgent};
@@ -12,13 +12,13 @@ use serf_lamport::Time;
 use serf_snapshot::Sink;
 
 impl<S: Sink> Agent<S> {
-    /// Observes the time of a member's join or leave intent, or of its status. From then on the member clock is later
-    /// than this time (Serf's `serf.go`, `handleNodeJoinIntent` and `handleNodeLeaveIntent`). The effect is that of a
-    /// push/pull that carries this clock and nothing else. Allocates no memory and doesn't call the sink;
+    /// Observes the time of a member's join or leave intent, or of its status. From then on, the member clock is later
+    /// than this time (Serf's `serf.go`, `handleNodeJoinIntent` and `handleNodeLeaveIntent`). A push/pull with only a
+    /// member clock of `time` plus one has the same effect. Allocates no memory and doesn't call the sink;
     /// [`Agent::save_member_clock`] writes the clock.
     ///
-    /// A host whose node sends an intent itself uses [`Agent::member_time`] as its time, observes this time, and saves
-    /// the clock before it sends the intent. Then no later life uses that time again.
+    /// If a host sends an intent for its own node, it takes [`Agent::member_time`] as the intent's time, observes this
+    /// time, and saves the clock before it sends the intent. Then no later life uses the same time again.
     pub fn observe_member_time(&mut self, time: Time)
         ensures heard { (i : IdealAgent) → IsSound i → self.old.concrete ≡ view_of i
             → (self.new.concrete ≡ view_of (joined (clock_state (time + 1)) false i))

@@ -67,7 +67,7 @@ impl OpenQueries {
         self.queries.values().as_slice()
     }
 
-    /// Adds an open query. Its time `time` must be above the times of all others.
+    /// Adds an open query. Its `time` must be later than the times of all other open queries.
     pub(crate) fn push(&mut self, time: u64, query: OpenQuery) -> Result<(), AllocError>
         requires { All (λ q. q.0 < time) self.old }
         ensures ok { OnOk result (self.new ≡ self.old ++ (time, query) ∷ []) }
@@ -87,7 +87,8 @@ impl OpenQueries {
         self.queries.pop();
     }
 
-    /// Counts `answer` for the open query of its time, or changes nothing if there is no memory for it.
+    /// Counts `answer` for the open query that was fired at the answer's time. If memory runs out, the list stays
+    /// unchanged.
     pub(crate) fn count(&mut self, alloc: Global, answer: &QueryResponse) -> Result<(), AllocError>
         ensures ok { OnOk result (IfSome (fired_query_at answer.now.time self.old) (λ q. self.new
             ≡ with_fired_query_at answer.now.time
@@ -115,8 +116,8 @@ impl OpenQueries {
         before - self.queries.len()
     }
 
-    /// Moves out the query at `index` if its deadline is before the moment `now`. A query with the same deadline and no
-    /// answers replaces it in the list. Allocates no memory.
+    /// Moves the query at `index` out of the list if its deadline is before the moment `now`. A query with the same
+    /// deadline and no answers takes its place. Allocates no memory.
     fn take_if_due(&mut self, alloc: Global, now: u64, index: usize) -> Option<(u64, OpenQuery)>
         ensures taken { IfSome result (λ q. IsTaken now index q self.old self.new) }
         ensures stays { IfNone result (self.new ≡ self.old) }
@@ -133,8 +134,8 @@ impl OpenQueries {
     }
 
     /// Removes the queries whose deadline is before the moment `now`, and returns them unchanged and in order. The
-    /// other queries keep their order. Changes nothing if there is no memory for the returned list, which needs memory
-    /// only if a query is due.
+    /// other queries keep their order. Only the returned list needs memory, and only if a query is due. If memory runs
+    /// out, nothing changes.
     pub(crate) fn take_due(
         &mut self,
         alloc: Global,

@@ -43,7 +43,7 @@ fn has_responded(responses: &[Response], name: &[u8]) -> bool
 }
 
 impl OpenQuery {
-    /// Why an answer that arrives at the moment `now` is ignored, or `None` if it isn't.
+    /// The reason to ignore an answer that arrives at the moment `now`, or `None` if there is no reason.
     pub(crate) fn ignore_reason(&self, now: u64, answer: &QueryResponse) -> Option<Reason>
         ensures { result ≡ answer_ignore_reason now (response_said answer.now) self.now }
     {
@@ -60,7 +60,7 @@ impl OpenQuery {
         }
     }
 
-    /// Why an ack from the node `from` is ignored, or `None` if it isn't.
+    /// The reason to ignore an ack from the node `from`, or `None` if there is no reason.
     fn ack_ignore_reason(&self, from: &[u8]) -> Option<Reason>
         ensures { result ≡ ack_ignore_reason from.now self.now }
     {
@@ -73,7 +73,7 @@ impl OpenQuery {
         None
     }
 
-    /// Why a response from the node `from` is ignored, or `None` if it isn't.
+    /// The reason to ignore a response from the node `from`, or `None` if there is no reason.
     fn response_ignore_reason(&self, from: &[u8]) -> Option<Reason>
         ensures { result ≡ response_ignore_reason from.now self.now }
     {
@@ -83,7 +83,7 @@ impl OpenQuery {
         None
     }
 
-    /// Whether the limit `responders` is reached for answers of this kind, acks or responses.
+    /// Whether the query already has as many answers of this kind (acks or responses) as the limit `responders` allows.
     pub(crate) fn is_full(&self, responders: u64, answer: &QueryResponse) -> bool
         ensures { result ≡ is_full responders (response_said answer.now) self.now }
     {
@@ -94,7 +94,7 @@ impl OpenQuery {
         }
     }
 
-    /// Counts an answer among the acks or the responses, or changes nothing if there is no memory for it.
+    /// Counts an answer among the acks or the responses. If memory runs out, the query stays unchanged.
     pub(crate) fn count(&mut self, alloc: Global, answer: &QueryResponse) -> Result<(), AllocError>
         ensures ok { OnOk result (self.new ≡ counted (response_said answer.now) self.old) }
         ensures err { OnErr result (self.new ≡ self.old) }
@@ -107,7 +107,7 @@ impl OpenQuery {
         self.responses.push(Response { from, payload })
     }
 
-    /// Moves the query out, and leaves one with the same deadline and no answers in its place. Allocates no memory.
+    /// Moves the query out, and leaves a query with the same deadline and no answers in its place. Allocates no memory.
     pub(crate) fn take(&mut self, alloc: Global) -> OpenQuery
         ensures taken { result ≡ self.old }
         ensures left { self.new.deadline ≡ self.old.deadline }

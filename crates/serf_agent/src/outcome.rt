@@ -25,7 +25,7 @@ pub struct Fired {
     pub handed: EventOut,
 }
 
-/// Why a packet is ignored. If several reasons apply, this is the first of them in this order.
+/// The reason why a packet is ignored. If several reasons apply, this is the first of them in this order.
 #[derive(Clone, Copy, Debug, PartialEq, Eq)]
 pub enum Reason {
     /// The event's name and payload together have more than 9,216 bytes.
@@ -36,19 +36,19 @@ pub enum Reason {
     TooOld,
     /// The same event or query was already accepted at this time.
     Seen,
-    /// The limit of events, or of queries, of one time is reached for this time.
+    /// The buffer already holds as many events, or queries, with this time as the settings allow.
     TimeFull,
-    /// An ack or a response to a query that isn't open here.
+    /// The packet is an ack or a response to a query that isn't open here.
     NotOpen,
-    /// An ack or a response to another query of the same time.
+    /// The packet is an ack or a response to another query of the same time.
     OtherId,
-    /// An ack or a response after the deadline.
+    /// The packet is an ack or a response that arrived after the deadline.
     Closed,
-    /// An ack, although none was requested.
+    /// The packet is an ack, although the query requested none.
     AckNotRequested,
-    /// A second ack of the same node.
+    /// The node already acked this query.
     AckTwice,
-    /// A second response of the same node.
+    /// The node already responded to this query.
     ResponseTwice,
 }
 
@@ -66,20 +66,19 @@ pub enum Outcome {
         /// Whether the packet is to be sent on unchanged.
         rebroadcast: bool,
     },
-    /// An ack was counted. [`answer_in`](crate::answer_in) returns for which query, and from which node.
+    /// An ack was counted. To see which query and which node it belongs to, call [`answer_in`](crate::answer_in).
     Ack,
-    /// A response was counted. [`answer_in`](crate::answer_in) returns for which query, from which node, and with which
-    /// payload.
+    /// A response was counted. To see its query, its node and its payload, call [`answer_in`](crate::answer_in).
     Response,
     /// The agent ignored the packet for this reason.
     Ignored(Reason),
-    /// A message of this type, which the agent doesn't read.
+    /// The message is of this type, which the agent doesn't read.
     Foreign(u8),
-    /// A push/pull, which is for `merge_remote_state`.
+    /// The packet is a push/pull. Pass it to `merge_remote_state`.
     PushPull,
 }
 
-/// Why an agent isn't opened.
+/// The reason why an agent couldn't be opened.
 #[derive(Clone, Copy, Debug, PartialEq, Eq, Error)]
 pub enum OpenError {
     #[error("the settings are out of bounds")]
@@ -90,7 +89,7 @@ pub enum OpenError {
     SinkError,
 }
 
-/// The settings and the sink of an agent that wasn't opened, and the error.
+/// The error of an opening that failed, together with the settings and the sink.
 #[derive(Drop)]
 pub struct NotOpened<S> {
     pub config: Config,
@@ -98,7 +97,7 @@ pub struct NotOpened<S> {
     pub error: OpenError,
 }
 
-/// Why an event isn't fired. If several errors apply, this is the first of them in this order.
+/// The reason why an event wasn't fired. If several errors apply, this is the first of them in this order.
 #[derive(Clone, Copy, Debug, PartialEq, Eq, Error)]
 pub enum FireError {
     #[error("the agent is stopped")]
@@ -115,14 +114,14 @@ pub enum FireError {
     SinkError,
 }
 
-/// Why a packet isn't accepted. If several errors apply, this is the first of them in this order.
+/// The reason why a packet was refused. If several errors apply, this is the first of them in this order.
 #[derive(Clone, Copy, Debug, PartialEq, Eq, Error)]
 pub enum ReceiveError {
     #[error("the agent is stopped")]
     Stopped,
     #[error("the packet is not a Serf message")]
     Wire(WireError),
-    /// The answer is from a new node, but the limit of nodes that are counted is reached.
+    /// The answer is from a new node, but the limit of counted nodes is reached.
     #[error("the query has as many answers as it accepts")]
     RespondersFull,
     #[error("out of memory")]
@@ -131,7 +130,7 @@ pub enum ReceiveError {
     SinkError,
 }
 
-/// Why an agent's state isn't sent. If several errors apply, this is the first of them in this order.
+/// The reason why a state wasn't encoded. If several errors apply, this is the first of them in this order.
 #[derive(Clone, Copy, Debug, PartialEq, Eq, Error)]
 pub enum PushPullError {
     #[error("the agent is stopped")]
@@ -143,7 +142,8 @@ pub enum PushPullError {
     OutOfMemory,
 }
 
-/// Why a packet isn't merged, or not all of it. If several errors apply, this is the first of them in this order.
+/// The reason why a packet wasn't merged, or only in part. If several errors apply, this is the first in this
+/// order.
 #[derive(Clone, Copy, Debug, PartialEq, Eq, Error)]
 pub enum MergeError {
     #[error("the agent is stopped")]
@@ -162,14 +162,14 @@ pub enum MergeError {
 /// The parameters of a query that is fired.
 #[derive(Drop)]
 pub struct QueryParams {
-    /// Which nodes are asked: those that every filter lets pass.
+    /// The query is for the nodes that every filter lets pass.
     pub filters: BytesList,
-    /// Whether each node that is asked sends an ack.
+    /// Whether each of these nodes is to send an ack.
     pub want_ack: bool,
-    /// Whether nodes don't rebroadcast the query.
+    /// Whether nodes are forbidden to rebroadcast the query.
     pub no_broadcast: bool,
     /// Whether this node's tags pass each tag filter among the filters, so that the query may be handed out here. Set
-    /// this to true only if you could read each of them and it passes.
+    /// this to true only if you could read each tag filter, and this node's tags pass all of them.
     pub tags_pass: bool,
     /// How long answers are accepted, in nanoseconds.
     pub timeout: i64,
@@ -179,7 +179,8 @@ pub struct QueryParams {
     pub relay_factor: u8,
 }
 
-/// A query that was fired: the packet to send, and what this node hands out and sends as its own ack.
+/// A query that was fired: the packet to send, and, if the filters let this node pass, the query to hand out here and
+/// this node's own ack.
 #[derive(Drop)]
 pub struct FiredQuery {
     pub time: Time,
@@ -190,7 +191,7 @@ pub struct FiredQuery {
     pub ack: Option<Bytes>,
 }
 
-/// Why a query isn't fired. If several errors apply, this is the first of them in this order.
+/// The reason why a query wasn't fired. If several errors apply, this is the first of them in this order.
 #[derive(Clone, Copy, Debug, PartialEq, Eq, Error)]
 pub enum QueryError {
     #[error("the agent is stopped")]
@@ -210,7 +211,7 @@ pub enum QueryError {
     SinkError,
 }
 
-/// A response to send to an address and a port.
+/// A response, and the address and the port to which to send it.
 #[derive(Drop)]
 pub struct Reply {
     pub addr: Bytes,
@@ -218,7 +219,7 @@ pub struct Reply {
     pub packet: Bytes,
 }
 
-/// Why a query isn't answered. If several errors apply, this is the first of them in this order.
+/// The reason why a query wasn't answered. If several errors apply, this is the first of them in this order.
 #[derive(Clone, Copy, Debug, PartialEq, Eq, Error)]
 pub enum RespondError {
     /// The moment is after the query's deadline.

@@ -1,4 +1,5 @@
-//! What an agent appends for a time: a clock line, and with it the line of an event, a query or a minimum time.
+//! The lines that an agent appends for a Lamport time: a clock line, and next to it the line of an event, a query or a
+//! minimum time, if there is one.
 
 ghost use Rattle.std.specs.Prelude.{◌≡◌, false, true, MatchOption, None};
 ghost use Rattle.serf_snapshot.specs.KeptAppends.{lines_given};
@@ -26,7 +27,7 @@ impl Model for OwnLine {
 }
 
 impl OwnLine {
-    /// The line that consists of `bytes`.
+    /// Makes the line with these bytes.
     pub(crate) fn of(bytes: Vec<u8>) -> OwnLine
         ensures { result ≡ lines_given bytes.items }
     {
@@ -55,8 +56,8 @@ impl OwnLine {
     }
 }
 
-/// Appends the clock line of `kind` and `time`, and `line` if there is one. Whatever has to be written goes to the sink
-/// in one append and one flush.
+/// Appends the clock line of `kind` and `time`, and also `line` if there is one. The sink gets everything in one append
+/// and one flush.
 pub(crate) fn append_lines<S: Sink>(
     snapshot: &mut Snapshot<S>,
     alloc: Global,

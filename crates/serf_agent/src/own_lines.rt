@@ -1,4 +1,4 @@
-//! The lines of what an agent keeps over a restart, and how they are written.
+//! Writes the snapshot lines of everything that an agent keeps over a restart.
 
 ghost use Rattle.std.specs.Prelude.{◌≡◌, ◌≢◌, ℕ, ◌++◌, ◌<◌, List, None, IfOk, OnErr, OnOk};
 ghost use Rattle.std.specs.List.{flat_map};
@@ -62,7 +62,7 @@ pub(crate) fn written_query(
     Ok(OwnLine::of(line))
 }
 
-/// The line of the minimum time of events that a join with this state sets, or no line if the settings don't both
+/// The line of the minimum time of events that a join with `state` sets. There is no line unless the settings both
 /// ignore old events and keep events. Memory is needed only if there is a line.
 pub(crate) fn written_min_line(
     alloc: Global,
@@ -83,19 +83,19 @@ pub(crate) fn written_min_line(
     Ok(OwnLine::of(line))
 }
 
-/// A key of a track whose entries a snapshot keeps in one line each: an event's name and payload, or a query's ID.
+/// The key of an entry that a snapshot keeps in a line: an event's name and payload, or a query's ID.
 pub(crate) trait Written: Drop {
     ghost use Rattle.serf_snapshot.specs.declared.kind.ClockKind.{ClockKind};
 
-    /// The kind of the clock from which its times are.
+    /// The kind of clock that draws the times of these entries.
     ghost KIND: { ClockKind };
 
-    /// The line of the entry with this key at a time.
+    /// The line of the entry that has this key and this time.
     ghost line: { ℕ → Self → List ℕ };
 
     const KIND: ClockKind;
 
-    /// Appends the line of this key's entry at `time` to `output`.
+    /// Appends to `output` the line of the entry that has this key and the time `time`.
     fn write_line<O: LineOutput>(&self, output: &mut O, time: Time) -> Result<(), O::Error>
         ensures { (before : List ℕ) → O.has output.old before → OnOk result (O.has output.new
             (before ++ line time self.now)) };
@@ -125,8 +125,8 @@ impl Written for u32 {
     }
 }
 
-/// Appends the lines of the entries `held`, which have the time `time`, to `output`.
-fn write_held<K: Written, O: LineOutput>(
+/// Appends to `output` the lines of the entries `held`, all of which have the time `time`.
+fn write_entries<K: Written, O: LineOutput>(
     output: &mut O,
     time: Time,
     held: &[K],
@@ -140,7 +140,7 @@ fn write_held<K: Written, O: LineOutput>(
     Ok(())
 }
 
-/// Appends the lines of what `slot` holds to `output`, if its time isn't below `lowest`.
+/// Appends to `output` the lines of the entries in `slot`, unless the slot's time is below `lowest`.
 fn write_slot<K: Written, O: LineOutput>(
     output: &mut O,
     lowest: u64,
@@ -152,10 +152,10 @@ fn write_slot<K: Written, O: LineOutput>(
     if slot.time.get() < lowest {
         return Ok(());
     }
-    write_held(output, slot.time, slot.held)
+    write_entries(output, slot.time, slot.held)
 }
 
-/// Appends the lines of what `slots` hold of the time `lowest` and later ones to `output`.
+/// Appends to `output` the lines of the entries in `slots` whose time is `lowest` or later.
 fn write_slots<K: Written, O: LineOutput>(
     output: &mut O,
     lowest: u64,
@@ -179,7 +179,7 @@ fn min_written<K: Drop>(track: &Track<K>, slot_count: u64, last: u64) -> u64
     track.minimum().max((last + 1).saturating_sub(slot_count))
 }
 
-/// Appends the lines that a compaction writes for `track` to `output`. The track's buffer has `slot_count` slots, and
+/// Appends to `output` the lines that a compaction writes for `track`. The track's buffer has `slot_count` slots, and
 /// its last clock line has the time `last`.
 fn write_stored<K: Written, O: LineOutput>(
     output: &mut O,
@@ -197,9 +197,9 @@ fn write_stored<K: Written, O: LineOutput>(
 }
 
 impl<S: Sink> Agent<S> {
-    /// Appends the lines that a compaction writes in addition to the last clock lines, if the settings keep events, to
-    /// `output`. These are, for events and for queries, the minimum time that is still accepted and what the buffer
-    /// holds from that time on.
+    /// Appends to `output` the lines that a compaction writes in addition to the last clock lines, if the settings keep
+    /// events. For events and for queries, these are the line of the minimum time that is still accepted, and the lines
+    /// of the entries in the buffer from that time on.
     fn write_kept_lines<O: LineOutput>(&self, output: &mut O) -> Result<(), O::Error>
         ensures { (before : List ℕ) → O.has output.old before → OnOk result (O.has output.new
             (before ++ kept_lines self.now.concrete)) }
@@ -232,8 +232,8 @@ impl<S: Sink> Agent<S> {
         Ok(text)
     }
 
-    /// The length of the lines that a compaction writes in addition to the last clock lines if the settings keep
-    /// events, in bytes. A length above 2^64 - 1 is returned as 2^64 - 1. Allocates no memory.
+    /// The length in bytes of the lines that a compaction writes in addition to the last clock lines, if the settings
+    /// keep events. A length above 2^64 - 1 is returned as 2^64 - 1. Allocates no memory.
     pub(crate) fn kept_length(&self) -> u64
         ensures { result ≡ counted (kept_lines self.now.concrete) }
     {

@@ -20,7 +20,7 @@ pub struct PendingQuery {
     parts: Box<PendingParts>,
 }
 
-/// This is written out so that a crate above doesn't have to prove again that each part can be dropped.
+/// `Drop` is implemented by hand, so that dependent crates need not prove again that the fields can be dropped.
 impl Drop for PendingQuery {
     fn drop(self) {
         let PendingQuery { parts: _ } = self;
@@ -68,8 +68,8 @@ impl Model for PendingQuery {
     ghost invariant = { λ q. q.parts.value.response_limit ≤ max_packet_limit };
 }
 
-/// The last moment, in nanoseconds, at which a query with this timeout that arrived at the moment `now` can be
-/// answered.
+/// Returns the deadline of a query that arrived at the moment `now` with this timeout: the last moment, in nanoseconds,
+/// at which the query can be answered.
 pub(crate) fn deadline_of(now: u64, timeout: i64) -> u64
     ensures { result ≡ deadline_of now timeout }
 {
@@ -94,14 +94,14 @@ pub(crate) fn ack_of<F>(alloc: Global, query: &Query<F>, node: &[u8]) -> Result<
     };
     match encode_response(alloc, &ack) {
         Ok(packet) => Ok(Bytes::from_vec(packet)),
-        // (the only text in an ack is a node name, which is short)
+        // (the only text in an ack is a node name, which is never too long)
         Err(EncodeError::TooLong) => unreachable!(),
         Err(EncodeError::OutOfMemory) => Err(AllocError),
     }
 }
 
 impl PendingQuery {
-    /// What an agent with the settings `config` hands out of a query that arrives at the moment `now`.
+    /// Makes the query that an agent with the settings `config` hands out when `query` arrives at the moment `now`.
     pub(crate) fn of<F>(
         alloc: Global,
         query: &Query<F>,
@@ -184,7 +184,7 @@ impl PendingQuery {
         self.parts.port
     }
 
-    /// How many nodes are to relay the response. This project's core relays none.
+    /// The number of nodes that are to relay the response. This project's core relays no responses.
     pub fn relay_factor(&self) -> u8
         ensures { result ≡ self.now.relay_factor }
     {
@@ -205,7 +205,7 @@ impl PendingQuery {
         self.parts.node.as_slice()
     }
 
-    /// The response to this query that carries `payload`.
+    /// Makes the response to this query, with `payload` as its payload.
     fn response<'a>(&'a self, payload: &'a [u8]) -> QueryResponse<'a>
         ensures { query_response (response_said result)
             ≡ response_of self.now.time self.now.id self.now.node 0 payload.now }
@@ -219,21 +219,21 @@ impl PendingQuery {
         }
     }
 
-    /// Encodes the response that carries `payload`. The caller knows that it fits.
+    /// Encodes the response with this `payload`. The caller has checked that its packet isn't too long.
     fn packet_of(&self, alloc: Global, payload: &[u8]) -> Result<Bytes, AllocError>
         requires { length (response_packet self.now payload.now) ≤ max_packet_limit }
         ensures { IfOk result (λ packet. packet ≡ response_packet self.now payload.now) }
     {
         match encode_response(alloc, &self.response(payload)) {
             Ok(packet) => Ok(Bytes::from_vec(packet)),
-            // (the caller knows that it fits)
+            // (the caller has checked that the packet isn't too long)
             Err(EncodeError::TooLong) => unreachable!(),
             Err(EncodeError::OutOfMemory) => Err(AllocError),
         }
     }
 
-    /// Answers the query (Serf's `query.go`, `Respond`). Send the packet of the reply to its address and port. A
-    /// success consumes the query. An error returns it unchanged, so that it can still be answered later.
+    /// Answers the query (Serf's `query.go`, `Respond`). Send the packet of the reply to the reply's address and port.
+    /// A success consumes the query. An error returns the query unchanged, so that it can still be answered later.
     ///
     /// The errors are `PastDeadline` if the moment `now` is after the deadline, `TooLarge` if the packet is longer than
     /// the `response_limit` of the agent that handed the query out, and `OutOfMemory`. If several apply, the first is

@@ -45,7 +45,7 @@ pub fn is_tag_filter(filter: &[u8]) -> bool
     }
 }
 
-/// Whether a filter lets `node` pass; `tags_pass` is the host's verdict on tag filters.
+/// Whether a filter lets the node `node` pass. `tags_pass` is the host's verdict on tag filters.
 pub(crate) fn filter_passes(filter: &[u8], node: &[u8], tags_pass: bool) -> bool
     ensures { result ≡ (if tags_pass && is_tag_filter filter.now then true
         else passes_of filter.now node.now) }
@@ -57,7 +57,7 @@ pub(crate) fn filter_passes(filter: &[u8], node: &[u8], tags_pass: bool) -> bool
     }
 }
 
-/// Whether every filter of a received query lets `node` pass; `tags_pass` is the host's verdict on tag filters.
+/// Whether every filter of a received query lets `node` pass. `tags_pass` is the host's verdict on tag filters.
 fn borrowed_filters_pass(filters: Texts, node: &[u8], tags_pass: bool) -> bool
     ensures { result ≡ all_pass tags_pass (texts_left filters.entry) node.now }
 {
@@ -69,15 +69,15 @@ fn borrowed_filters_pass(filters: Texts, node: &[u8], tags_pass: bool) -> bool
     true
 }
 
-/// What a node does with a new query, depending on its filters: what it hands out, and the ack that it sends.
+/// A node's reaction to a new query: the query if the filters let the node hand it out, and the ack if it sends one.
 #[derive(Drop)]
 pub(crate) struct Passed {
     pub(crate) handed: Option<PendingQuery>,
     pub(crate) ack: Option<Bytes>,
 }
 
-/// Makes what a node hands out and sends for a query that arrives at the moment `now`. Both are `None` unless the
-/// query's filters let the node pass (`passed`).
+/// Makes the query that a node hands out and the ack that it sends when a query arrives at the moment `now`. Both are
+/// `None` unless the query's filters let the node pass (`passed`).
 pub(crate) fn pass<F>(
     alloc: Global,
     query: &Query<F>,
@@ -123,8 +123,8 @@ fn outcome_of(answer: &QueryResponse) -> Outcome
 }
 
 impl<S: Sink> Agent<S> {
-    /// Receives a query at the moment `now`: ignores it, or writes its line and hands it out. `tags_pass` is the host's
-    /// verdict on its tag filters.
+    /// Receives a query at the moment `now`: ignores it, or writes its line and, if its filters let this node pass,
+    /// hands it out. `tags_pass` is the host's verdict on its tag filters.
     pub(crate) fn receive_query(
         &mut self,
         alloc: Global,
@@ -136,7 +136,7 @@ impl<S: Sink> Agent<S> {
         ensures { TakesPacket (λ i. receive_query tags_pass i now (query_said query.now)) None
             self.old self.new result }
     {
-        // (for the proof: what the snapshot records of its last lines is what its sink holds)
+        // (for the proof: the last lines that the snapshot records are those that its sink holds)
         sound_snapshots();
         match self.query_admission(query.time, query.id) {
             Some(reason) => {
@@ -159,7 +159,7 @@ impl<S: Sink> Agent<S> {
         }
     }
 
-    /// Why a query is ignored, or `None` if it is new. Allocates no memory.
+    /// The reason to ignore a query with this time and ID, or `None` if the query is new. Allocates no memory.
     pub(crate) fn query_admission(&self, time: Time, id: u32) -> Option<Reason>
         ensures reason { (i : IdealAgent) → IsSound i → self.now.concrete ≡ view_of i
             → result ≡ query_admission i time id }
@@ -171,8 +171,8 @@ impl<S: Sink> Agent<S> {
         self.queries.reason(time, &id)
     }
 
-    /// Writes a query's line to the sink, inserts the query into the buffer after the line is durable, and returns what
-    /// is handed out.
+    /// Writes a query's line to the sink. After the line is durable, inserts the query into the buffer, and returns the
+    /// query to hand out and the ack to send, if any.
     fn accept_query(
         &mut self,
         alloc: Global,
@@ -264,10 +264,11 @@ impl<S: Sink> Agent<S> {
     }
 
     /// Removes the open queries whose deadline is before the moment `now`, in nanoseconds, and returns them with their
-    /// times: unchanged, with the acks and the responses that were counted, in the order in which they were fired. What
-    /// remains is the same as after [`Agent::close_due`]. This works on a stopped agent too.
+    /// times, in the order in which they were fired. They still have the acks and the responses that were counted.
+    /// Afterwards, the agent is the same as after [`Agent::close_due`]. This works on a stopped agent too.
     ///
-    /// Memory is needed only for the returned list, and none if no query is due. An allocation failure changes nothing.
+    /// The call needs memory only for the returned list, and only if a query is due. An allocation failure changes
+    /// nothing.
     pub fn take_due(&mut self, alloc: Global, now: u64) -> Result<Vec<(u64, OpenQuery)>, AllocError>
         ensures closed { IfOk result (λ closed. closed.items
             ≡ filter (is_due now) self.old.concrete.fired_queries) }

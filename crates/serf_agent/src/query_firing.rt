@@ -34,7 +34,7 @@ use serf_snapshot::{AppendLineError, ClockKind, Sink, Snapshot};
 use serf_wire::{Bytes, EncodeError, Query, encode_query, query_len};
 use std::alloc::{AllocError, Global};
 
-/// Whether every filter of a query that is fired lets `node` pass; `tags_pass` is the host's verdict on tag filters.
+/// Whether every filter of a fired query lets the node `node` pass. `tags_pass` is the host's verdict on tag filters.
 fn filters_pass(filters: &[Bytes], node: &[u8], tags_pass: bool) -> bool
     ensures { result ≡ all_pass tags_pass filters.now node.now }
 {
@@ -43,22 +43,23 @@ fn filters_pass(filters: &[Bytes], node: &[u8], tags_pass: bool) -> bool
         .all(|f| filter_passes(f.as_slice(), node, tags_pass))
 }
 
-/// Encodes the packet of a query. The caller knows that it is small enough to be fired.
+/// Encodes the packet of a query. The caller has checked that the query is small enough to be fired.
 fn packet_of(alloc: Global, parts: &Query<&[Bytes]>) -> Result<Bytes, AllocError>
     requires { length (canonical (query (query_of parts.now))) ≤ max_packet_limit }
     ensures { IfOk result (λ packet. packet ≡ canonical (query (query_of parts.now))) }
 {
     match encode_query(alloc, parts) {
         Ok(packet) => Ok(Bytes::from_vec(packet)),
-        // (the caller knows that it fits)
+        // (the caller has checked that the packet isn't too long)
         Err(EncodeError::TooLong) => unreachable!(),
         Err(EncodeError::OutOfMemory) => Err(AllocError),
     }
 }
 
-/// The result of firing a query: the packet to send, and what the node itself hands out and sends as its ack.
-/// `tags_pass` is the host's verdict on tag filters.
-fn fired_of(
+/// Makes the result of firing a query: the packet to send. If the filters let this node pass, the result also has the
+/// query to hand out here, and this node's own ack if the query requests acks. `tags_pass` is the host's verdict on tag
+/// filters.
+fn fired_query_of(
     alloc: Global,
     parts: &Query<&[Bytes]>,
     now: u64,
@@ -81,7 +82,7 @@ fn fired_of(
     })
 }
 
-/// The open query of a query that is fired at the moment `now`. It has no answers yet.
+/// Makes the open query, still without answers, for a query that is fired at the moment `now`.
 fn opened(alloc: Global, query: &Query<&[Bytes]>, now: u64) -> OpenQuery
     ensures { result ≡ opened_query now (query_of query.now) }
 {
@@ -167,9 +168,9 @@ impl<S: Sink> Agent<S> {
     }
 
     /// Fires a query at the query clock's time (Serf's `serf.go`, `Query`). After a success its clock line is durable,
-    /// the query is in the buffer, and it is open for answers. The result has the packet to send, and the query itself
-    /// if its filters let this node pass, because it is handed out here too. The agent doesn't know the node's tags:
-    /// `params` contains whether tag filters let this node pass.
+    /// the query is in the buffer, and it is open for answers. The result has the packet to send. If the filters let
+    /// this node pass, the result also has the query itself, because this node hands it out too. The agent doesn't know
+    /// the node's tags, so the caller reports in `params` whether they pass the tag filters.
     ///
     /// On success, the sink has appended and flushed this one clock line and done nothing else. It wasn't called at all
     /// if the last query clock line already has this time or a later one. If the settings keep events, the sink is
@@ -192,7 +193,7 @@ impl<S: Sink> Agent<S> {
             → Steps i (fire_query i now id name.now payload.now params.now)
             result self.old.device self.new }
 
-        // What is left of the sink, whatever it exposes of its bytes.
+        // The state of the sink after a success. This also holds for a sink that doesn't expose its bytes.
         ensures ok_device { IfOk result (λ f. self.new.device ≡ device_appended kinds.Query f.time
             (written_query self.old.concrete.config f.time id) self.old.concrete.snapshot
             self.old.device) }
@@ -211,7 +212,7 @@ impl<S: Sink> Agent<S> {
         ensures cause { IsErrOf result QueryError.SinkError
             → HasFailed self.old.device.failures self.new.device.failures }
     {
-        // (for the proof: what the snapshot records of its last lines is what its sink holds)
+        // (for the proof: the last lines that the snapshot records are those that its sink holds)
         sound_snapshots();
         if self.snapshot.is_stopped() {
             return Err(QueryError::Stopped);
@@ -228,8 +229,8 @@ impl<S: Sink> Agent<S> {
         Ok(self.ask(alloc, now, time, id, name, payload, params)?)
     }
 
-    /// Writes the line of a query that this agent fires, opens the query after the line is durable, and returns its
-    /// packet and what is handed out.
+    /// Writes the line of a query that this agent fires. After the line is durable, opens the query for answers, and
+    /// returns the result of firing it.
     fn ask(
         &mut self,
         alloc: Global,
@@ -262,7 +263,7 @@ impl<S: Sink> Agent<S> {
     {
         let config = &self.config;
         let query = params.parts(time, config.name.as_slice(), id, name, payload);
-        let fired = fired_of(alloc, &query, now, config, params.tags_pass)?;
+        let fired = fired_query_of(alloc, &query, now, config, params.tags_pass)?;
         let open = opened(alloc, &query, now);
         self.insert_fired_query(alloc, time, open)?;
         Ok(fired)

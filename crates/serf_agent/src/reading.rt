@@ -56,7 +56,7 @@ impl<S: Sink> Agent<S> {
         self.events.minimum()
     }
 
-    /// How many events the buffer holds, both those of this life and those that the opening restored.
+    /// The number of events in the buffer, including those that were restored when the agent was opened.
     pub fn held_events(&self) -> u64
         ensures count { result ≡ held_count self.now.concrete.events.slots }
         ensures bound { result
@@ -79,13 +79,13 @@ impl<S: Sink> Agent<S> {
         self.snapshot.is_stopped()
     }
 
-    /// Whether the snapshot is worth a compaction: it has more than `limit` bytes, and a compaction would remove at
-    /// least half of them. If the settings keep events, a compaction also writes the lines of what the buffers hold.
-    /// The result is always false for a stopped agent, which can't compact, and for a limit of 2^64 - 1. Serf's own
-    /// limit is [`DEFAULT_SNAPSHOT_LIMIT`](crate::DEFAULT_SNAPSHOT_LIMIT).
+    /// Whether it is worth compacting the snapshot: it has more than `limit` bytes, and a compaction would remove at
+    /// least half of them. If the settings keep events, a compaction also writes the lines of the entries in the
+    /// buffers. The result is always false for a stopped agent, which can't compact, and for a limit of 2^64 - 1.
+    /// Serf's own limit is [`DEFAULT_SNAPSHOT_LIMIT`](crate::DEFAULT_SNAPSHOT_LIMIT).
     ///
-    /// The call takes the same time however long the text is. It goes through the slots of both buffers only if the
-    /// settings keep events and the text is longer than the limit.
+    /// The call takes the same time for a long text as for a short one. It goes through the slots of both buffers only
+    /// if the settings keep events and the text is longer than the limit.
     pub fn should_compact(&self, limit: u64) -> bool
         ensures exact { self.now.concrete.snapshot.stopped ≡ false
             → IfSome self.now.concrete.snapshot.durable (λ text. result
@@ -101,12 +101,13 @@ impl<S: Sink> Agent<S> {
         if !self.config.keep_events {
             return self.snapshot.should_compact(limit, 0);
         }
-        // a compaction without these lines is shorter: if even that isn't worth it, the buffers needn't be measured
+        // A compaction without the lines of the buffers is shorter. If even that isn't worth it, there is no need to
+        // measure the buffers.
         self.snapshot.should_compact(limit, 0)
             && self.snapshot.should_compact(limit, self.kept_length())
     }
 
-    /// The slots of the event buffer, in order. A slot that was never used has the time 0 and no events.
+    /// The slots of the event buffer, in order. A slot that was never used has the time 0 and holds no events.
     pub fn slots(&self) -> BorrowedEventSlots<'_>
         ensures { map slot_view (slots_borrowed result) ≡ self.now.concrete.events.slots }
     {
@@ -120,7 +121,8 @@ impl<S: Sink> Agent<S> {
         self.fired_queries.get(time.get())
     }
 
-    /// The sink, borrowed for reading. The sink buffers nothing while the agent isn't stopped.
+    /// Borrows the sink for reading. Unless the agent is stopped, the sink has flushed everything that was appended to
+    /// it.
     pub fn sink(&self) -> &S
         ensures device { S.device result.now ≡ self.now.device }
         ensures durable { durable_of self.now.device ≡ self.now.concrete.snapshot.durable }
@@ -132,22 +134,22 @@ impl<S: Sink> Agent<S> {
 }
 
 impl Agent<MemorySink> {
-    /// Makes the n-th append of the sink from now on fail; with 0, no append fails. Allocates no memory.
+    /// Makes the sink's n-th append from now on fail. If `n` is 0, no append fails. Allocates no memory.
     pub fn fail_append(&mut self, n: u64)
         ensures { self.new ≡ with_new_plan (append_failing n) self.old }
     {
         self.snapshot.fail_append(n);
     }
 
-    /// Makes the n-th flush of the sink from now on fail; with 0, no flush fails. Allocates no memory.
+    /// Makes the sink's n-th flush from now on fail. If `n` is 0, no flush fails. Allocates no memory.
     pub fn fail_flush(&mut self, n: u64)
         ensures { self.new ≡ with_new_plan (flush_failing n) self.old }
     {
         self.snapshot.fail_flush(n);
     }
 
-    /// Makes the n-th replacement of the sink's text from now on fail, and keep the new text or the old one; with 0, no
-    /// replacement fails. Allocates no memory.
+    /// Makes the n-th replacement of the sink's text from now on fail. The sink then keeps the new text if `keeps_new`
+    /// is true, and the old text otherwise. If `n` is 0, no replacement fails. Allocates no memory.
     pub fn fail_replace(&mut self, n: u64, keeps_new: bool)
         ensures { self.new ≡ with_new_plan (replace_failing n keeps_new) self.old }
     {

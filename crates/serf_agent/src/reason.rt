@@ -1,4 +1,4 @@
-//! A window's verdict, as a reason to ignore an entry.
+//! Converts a window's verdict to a reason to ignore an entry.
 
 ghost use Rattle.std.specs.Prelude.{◌≡◌};
 ghost use Rattle.serf_agent.specs.Reasons.{reason_for};
@@ -6,7 +6,7 @@ ghost use Rattle.serf_agent.specs.Reasons.{reason_for};
 use crate::outcome::Reason;
 use serf_window::Verdict;
 
-/// Why an agent ignores an entry for which a window has this verdict, or `None` if the entry is new.
+/// The reason to ignore an entry that a window judged with `verdict`, or `None` if the entry is new.
 pub(crate) fn reason_of(verdict: Verdict) -> Option<Reason>
     ensures { result ≡ reason_for verdict }
 {

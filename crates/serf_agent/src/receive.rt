@@ -16,17 +16,17 @@ impl<S: Sink> Agent<S> {
     /// Receives a packet at the moment `now`, in nanoseconds (Serf's `delegate.go`, `NotifyMsg`). `tags_pass` is the
     /// host's verdict on tag filters: whether this node's tags pass all of them.
     ///
-    /// If an event or a query is new, its clock line is appended to the sink and flushed before it is handed out. The
-    /// sink isn't called if the last clock line of this kind already has this time or a later one, and it isn't called
-    /// for any other packet. If the settings keep events, the sink is called for each new event or query: its own line
-    /// is written too, in the same append as the clock line.
+    /// Before the agent hands out a new event or query, it appends the clock line to the sink and flushes it. The agent
+    /// doesn't call the sink if the last clock line of this kind already has this time or a later one, and it doesn't
+    /// call the sink for any other packet. If the settings keep events, the agent calls the sink for each new event or
+    /// query, and writes the event's or the query's own line in the same append as the clock line.
     ///
     /// The agent doesn't know the node's tags; it only recognizes tag filters
     /// ([`is_tag_filter`](crate::is_tag_filter)). Set `tags_pass` to true only if you could read each tag filter of the
-    /// packet's query and each of them passes. Without tag filters, `tags_pass` has no effect. A query is
-    /// handed out if each of its filters is either a node filter that names this node, or a tag filter while
-    /// `tags_pass` is true. Any other filter excludes every node. A new query's line is written, and the query enters
-    /// the buffer, whether it is handed out or not.
+    /// query in the packet, and this node's tags pass all of them. If there are no tag filters, `tags_pass` has no
+    /// effect. The agent hands out a query if each of the query's filters is either a node filter that names this node,
+    /// or a tag filter and `tags_pass` is true. A filter of any other kind excludes every node. Whether or not the
+    /// agent hands out a new query, it writes the query's line and inserts the query into the buffer.
     ///
     /// If several errors apply, the first in the order of `ReceiveError` is returned. Every error except `SinkError`
     /// leaves the agent and its sink as they were. `SinkError` stops the agent: the sink failed when it appended or
@@ -45,14 +45,14 @@ impl<S: Sink> Agent<S> {
         if self.snapshot.is_stopped() {
             return Err(ReceiveError::Stopped);
         }
-        // User events are the most frequent packets, and don't need the stack space that other messages need.
+        // User events are the most frequent packets, and they don't need the stack space that other messages need.
         match decode_user_event(packet) {
             Some(event) => self.receive_event(alloc, &event),
             None => self.receive_packet(alloc, now, packet, tags_pass),
         }
     }
 
-    /// Receives a packet, on an agent that runs: decodes it and handles its message.
+    /// Decodes a packet and handles its message. The caller has checked that the agent isn't stopped.
     #[inline(never)]
     fn receive_packet(
         &mut self,

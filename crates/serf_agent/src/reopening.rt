@@ -1,4 +1,4 @@
-//! What an opening reads from a text, before it touches the sink.
+//! Reads the snapshot's text when an agent is opened, before the sink is touched.
 
 ghost use Rattle.std.specs.Prelude.{◌≡◌, ◌<◌, ◌+◌, All, false, true, map, length, IfOk, IsOk};
 ghost use Rattle.serf_lamport.specs.Clock.{max_clock};
@@ -19,8 +19,8 @@ use serf_window::Offer;
 use serf_wire::EventView;
 use std::alloc::{AllocError, Global};
 
-/// Which lines a buffer of `slot_count` slots can restore, if the text has the last clock `last` and the minimum time
-/// `lowest`.
+/// Selects the lines that a buffer of `slot_count` slots can restore from a text whose last clock is `last` and whose
+/// minimum time is `lowest`.
 fn within_reach(slot_count: u64, last: u64, lowest: u64) -> EntryFilter
     requires { last < max_clock }
     ensures { result ≡ within_reach slot_count last lowest }
@@ -34,7 +34,7 @@ fn within_reach(slot_count: u64, last: u64, lowest: u64) -> EntryFilter
     }
 }
 
-/// The events that a text keeps, as offers to a window.
+/// Makes an offer to a window for each event that a text keeps.
 fn event_offers<'a>(
     alloc: Global,
     events: &'a [KeptEvent],
@@ -57,7 +57,7 @@ fn event_offers<'a>(
     Ok(offers)
 }
 
-/// The queries that a text keeps, as offers to a window.
+/// Makes an offer to a window for each query that a text keeps.
 fn query_offers(alloc: Global, queries: &[KeptQuery]) -> Result<Vec<Offer<u32>>, AllocError>
     ensures { IfOk result (λ offers. entries_offered (λ id. id) offers.items
         ≡ map query_entry queries.now) }
@@ -72,8 +72,8 @@ fn query_offers(alloc: Global, queries: &[KeptQuery]) -> Result<Vec<Offer<u32>>,
     Ok(offers)
 }
 
-/// The track that restores the kept events of a text, which has the last event clock `last` and the minimum time
-/// `lowest` of events.
+/// Restores the event track from the events that a text keeps. The text's last event clock is `last`, and its minimum
+/// time of events is `lowest`.
 fn restored_events(
     alloc: Global,
     config: &Config,
@@ -100,8 +100,8 @@ fn restored_events(
     )
 }
 
-/// The track that restores the kept queries of a text, which has the last query clock `last` and the minimum time
-/// `lowest` of queries.
+/// Restores the query track from the queries that a text keeps. The text's last query clock is `last`, and its minimum
+/// time of queries is `lowest`.
 fn restored_queries(
     alloc: Global,
     config: &Config,
@@ -128,21 +128,21 @@ fn restored_queries(
     )
 }
 
-/// The tracks with which an opening begins, and the clocks of its text.
+/// The tracks with which a new agent begins, and the clocks of the text from which it is opened.
 #[derive(Drop)]
-pub(crate) struct FirstTracks {
+pub(crate) struct OpeningTracks {
     pub(crate) clocks: Clocks,
     pub(crate) events: EventTrack,
     pub(crate) queries: QueryTrack,
 }
 
-/// Reads what an opening begins with from a text. If the settings keep events, the tracks restore the events and the
-/// queries that the text keeps. Otherwise the tracks hold nothing, and no memory is allocated.
-pub(crate) fn first_tracks(
+/// Reads from a text the clocks and the tracks with which an agent begins. If the settings keep events, the tracks hold
+/// the events and the queries that the text keeps. Otherwise the tracks hold nothing, and no memory is allocated.
+pub(crate) fn read_opening_tracks(
     alloc: Global,
     config: &Config,
     text: &[u8],
-) -> Result<FirstTracks, AllocError>
+) -> Result<OpeningTracks, AllocError>
     requires { is_sound config.now ≡ true }
     ensures member_clock { IfOk result (λ first. first.clocks.member_clock
         ≡ last_clock kinds.Member text.now) }
@@ -167,7 +167,7 @@ pub(crate) fn first_tracks(
         ≡ config.now.per_time) }
     ensures free { config.now.keep_events ≡ false → IsOk result }
 {
-    // (for the proof: what an opening reads from a text with kept events)
+    // (for the proof: the entries that an opening reads from a text with kept events)
     kept_text_laws();
     let times = read_times(text);
     let (clocks, lowest) = (times.clocks, times.lowest);
@@ -175,7 +175,7 @@ pub(crate) fn first_tracks(
     if !config.keep_events {
         let events = EventTrack::after(alloc, config.event_buffer, per_time, clocks.event_clock);
         let queries = QueryTrack::after(alloc, config.query_buffer, per_time, clocks.query_clock);
-        return Ok(FirstTracks {
+        return Ok(OpeningTracks {
             clocks,
             events,
             queries,
@@ -188,7 +188,7 @@ pub(crate) fn first_tracks(
     let events = restored_events(alloc, config, last, min_time, kept.events.as_slice())?;
     let (last, min_time) = (clocks.query_clock, lowest.queries);
     let queries = restored_queries(alloc, config, last, min_time, kept.queries.as_slice())?;
-    Ok(FirstTracks {
+    Ok(OpeningTracks {
         clocks,
         events,
         queries,

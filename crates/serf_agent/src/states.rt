@@ -37,7 +37,7 @@ use serf_wire::{
 };
 use std::alloc::Global;
 
-/// The push/pull that a message is, or `None` if it is another message.
+/// Returns the push/pull if `message` is one, and `None` otherwise.
 fn push_pull_of<'a>(message: &Message<'a>) -> Option<PushPull<'a>>
     ensures some { IfSome result (λ p. message_of message.now ≡ push_pull (push_pull_said p)) }
     ensures none { result ≡ None → (m : State) → message_of message.now ≢ push_pull m }
@@ -51,7 +51,7 @@ fn push_pull_of<'a>(message: &Message<'a>) -> Option<PushPull<'a>>
     }
 }
 
-/// Appends `event` to `out`. The caller knows that `out` has room for it.
+/// Appends `event` to `out`. The caller has reserved room for it.
 fn add(out: &mut Vec<EventOut>, event: EventOut)
     requires { vec_len out.old < vec_capacity out.old }
     ensures { out.new.items ≡ out.old.items ++ event ∷ [] }
@@ -103,8 +103,8 @@ impl<S: Sink> Agent<S> {
         }
     }
 
-    /// Writes the time before the member clock, so that a restart continues from there (Serf's `snapshot.go`,
-    /// `updateClock`).
+    /// Writes the member clock's line, with the time just before the clock, so that a restart continues from there
+    /// (Serf's `snapshot.go`, `updateClock`).
     ///
     /// `Stopped` and `OutOfMemory` leave the agent and its sink as they were. `SinkError` stops the agent: the sink
     /// failed when it appended or flushed the line, and may have kept a part of it. On success, this one line was
@@ -131,18 +131,18 @@ impl<S: Sink> Agent<S> {
         ensures cause { IsErrOf result AppendLineError.SinkError
             → HasFailed self.old.device.failures self.new.device.failures }
     {
-        // (for the proof: what the snapshot records of its last lines is what its sink holds)
+        // (for the proof: the last lines that the snapshot records are those that its sink holds)
         sound_snapshots();
         let Some(time) = Time::new(self.member_clock.time().saturating_sub(1)) else {
-            // (a clock minus one is below 2^64 - 1, and so it is a time)
+            // (a clock minus one is below 2^64 - 1, so it is a valid time)
             unreachable!()
         };
         self.snapshot
             .append_line(alloc, ClockKind::Member, time, b"")
     }
 
-    /// Raises the clocks to at least those of `state`, another agent's. If this agent joins and its settings ignore old
-    /// events, also raises the minimum time of events.
+    /// Raises the clocks to at least the clocks in `state`, the state of another agent. If this agent joins and its
+    /// settings ignore old events, it also raises the minimum time of events.
     fn join(&mut self, state: &PushPull, is_join: bool)
         ensures joined { (i : IdealAgent) → IsSound i → self.old.concrete ≡ view_of i
             → (self.new.concrete ≡ view_of (joined (push_pull_said state.now) is_join i))
@@ -172,7 +172,7 @@ impl<S: Sink> Agent<S> {
         ensures none { line.now ≡ None → result ≡ Ok tt }
     {
         let Some(no_time) = Time::new(0) else {
-            // (0 is a time)
+            // (0 is a valid time)
             unreachable!()
         };
         if line.is_none() {
@@ -181,9 +181,9 @@ impl<S: Sink> Agent<S> {
         append_lines(&mut self.snapshot, alloc, ClockKind::Event, no_time, line)
     }
 
-    /// Raises the clocks to at least those of `state`, another agent's. If this agent joins (`is_join`), and its
-    /// settings ignore old events and keep events, it first writes the line of the minimum time of events that this
-    /// sets.
+    /// Raises the clocks to at least the clocks in `state`, the state of another agent. If this agent joins
+    /// (`is_join`), and its settings both ignore old events and keep events, it first writes the line of the new
+    /// minimum time of events.
     fn hear(&mut self, alloc: Global, state: &PushPull, is_join: bool) -> Result<(), MergeError>
         requires { self.old.concrete.snapshot.stopped ≡ false }
         ensures heard { (i : IdealAgent) → IsSound i → self.old.concrete ≡ view_of i
@@ -193,7 +193,7 @@ impl<S: Sink> Agent<S> {
         ensures cause { IsErrOf result MergeError.SinkError
             → HasFailed self.old.device.failures self.new.device.failures }
     {
-        // (for the proof: what the snapshot records of its last lines is what its sink holds)
+        // (for the proof: the last lines that the snapshot records are those that its sink holds)
         sound_snapshots();
         let line = written_min_line(alloc, &self.config, state, is_join)?;
         self.append_min_line(alloc, &line)?;
@@ -201,24 +201,25 @@ impl<S: Sink> Agent<S> {
         Ok(())
     }
 
-    /// Merges the whole state of another agent (Serf's `delegate.go`, `MergeRemoteState`). The clocks rise to those of
-    /// the state. If this agent joins and its settings ignore old events, so does the minimum time of events. The
-    /// events of the state that are new are appended to `out` in order. The returned content of the packet is borrowed.
+    /// Merges the whole state of another agent (Serf's `delegate.go`, `MergeRemoteState`). The agent raises its clocks
+    /// to at least those of the state. If it joins and its settings ignore old events, it also raises the minimum time
+    /// of events. It appends the new events of the state to `out`, in order. The result borrows the contents of the
+    /// packet.
     ///
-    /// If this agent joins, and its settings ignore old events and keep events, then at each of these joins the line of
-    /// the minimum time is written before anything is merged, in one append and one flush. So later lives also ignore
-    /// what is below it.
+    /// If this agent joins, and its settings both ignore old events and keep events, it writes the line of the minimum
+    /// time before it merges anything, in one append and one flush. So later lives also ignore the events below this
+    /// minimum.
     ///
-    /// Each new event is written before it is added to `out`, in the packet's order: its clock line is appended to the
-    /// sink and flushed. The sink isn't called if the last event clock line already has this time or a later one. If
-    /// the settings keep events, the sink is called for each new event: its own line is written too, in the same append
-    /// as the clock line.
+    /// The agent writes each new event before it adds the event to `out`, in the packet's order: it appends the event's
+    /// clock line to the sink and flushes it. It doesn't call the sink if the last event clock line already has this
+    /// time or a later one. If the settings keep events, the agent calls the sink for each new event, and writes the
+    /// event's own line in the same append as the clock line.
     ///
     /// If several errors apply, the first in the order of `MergeError` is returned. `Stopped`, `Wire` and `NotPushPull`
-    /// leave everything as it was. `OutOfMemory` and `SinkError` occur at one of the lines. After `OutOfMemory` you may
-    /// call the same merge again; `SinkError` stops the agent. If the error occurs at the line of a join's minimum
-    /// time, nothing was merged, and `out` is unchanged. If it occurs at an event's line, the clocks were merged, and
-    /// `out` has exactly the events that were handed out before this one.
+    /// leave everything as it was. `OutOfMemory` and `SinkError` can occur whenever the agent writes a line. After
+    /// `OutOfMemory` you may call the same merge again; `SinkError` stops the agent. If the error occurs at the line of
+    /// a join's minimum time, nothing was merged, and `out` is unchanged. If it occurs at an event's line, the clocks
+    /// were merged, and `out` has exactly the events that were handed out before this one.
     pub fn merge_remote_state<'a>(
         &mut self,
         alloc: Global,
@@ -278,7 +279,7 @@ impl<S: Sink> Agent<S> {
         }
     }
 
-    /// Receives the events of `slots`, one after another, and appends those that are new to `out`.
+    /// Receives the events of `slots`, one after another, and appends the new ones to `out`.
     fn receive_slots(
         &mut self,
         alloc: Global,
@@ -301,7 +302,7 @@ impl<S: Sink> Agent<S> {
         Ok(())
     }
 
-    /// Receives the events of `slot`, one after another, and appends those that are new to `out`.
+    /// Receives the events of `slot`, one after another, and appends the new ones to `out`.
     fn receive_slot(
         &mut self,
         alloc: Global,
@@ -324,7 +325,7 @@ impl<S: Sink> Agent<S> {
         }
     }
 
-    /// Receives the events of one time, one after another, and appends those that are new to `out`.
+    /// Receives the events of one time, one after another, and appends the new ones to `out`.
     fn receive_events(
         &mut self,
         alloc: Global,
@@ -373,12 +374,12 @@ impl<S: Sink> Agent<S> {
                 self.events.observe(time);
                 Ok(())
             }
-            None => self.take_one(alloc, time, event, out),
+            None => self.accept_merged_event(alloc, time, event, out),
         }
     }
 
     /// Writes the line of a new event of a push/pull, inserts the event into the buffer, and appends it to `out`.
-    fn take_one(
+    fn accept_merged_event(
         &mut self,
         alloc: Global,
         time: Time,
@@ -396,10 +397,10 @@ impl<S: Sink> Agent<S> {
         ensures cause { IsErrOf result MergeError.SinkError
             → HasFailed self.old.device.failures self.new.device.failures }
     {
-        // (for the proof: what the snapshot records of its last lines is what its sink holds)
+        // (for the proof: the last lines that the snapshot records are those that its sink holds)
         sound_snapshots();
         out.reserve(1)?;
-        // A push/pull doesn't carry whether an event may be coalesced.
+        // A push/pull doesn't carry the flag whether an event may be coalesced.
         let event = UserEvent {
             time,
             name: event.name,
@@ -413,13 +414,13 @@ impl<S: Sink> Agent<S> {
 }
 
 impl<S: ReplaceSink> Agent<S> {
-    /// Replaces the sink's text by the last line of each clock and, if the settings keep events, by the lines of what
-    /// the buffers hold. The rest of the agent is unchanged.
+    /// Replaces the sink's text with the last line of each clock and, if the settings keep events, the lines of the
+    /// entries in the buffers. The rest of the agent is unchanged.
     ///
-    /// On success, the sink's text was replaced once, and the sink was neither appended to nor flushed. `Stopped`
-    /// leaves everything as it was, including the counts of the sink's calls. `OutOfMemory` leaves the agent as it was,
-    /// and also its sink, except that a call may be counted. `SinkError` stops the agent, and the durable text is then
-    /// the old one or the new one.
+    /// On success, the sink replaced its text once and did nothing else. `Stopped` leaves everything as it was,
+    /// including the counts of the sink's calls. `OutOfMemory` leaves the agent and its sink as they were, except that
+    /// the sink may have counted a call. `SinkError` stops the agent, and the durable text is then the old one or the
+    /// new one.
     pub fn compact(&mut self, alloc: Global) -> Result<(), AppendLineError>
         ensures step { (i : IdealAgent) → IsSound i → self.old.concrete ≡ view_of i
             → result ≢ Err AppendLineError.OutOfMemory
@@ -444,7 +445,7 @@ impl<S: ReplaceSink> Agent<S> {
         ensures error_called { IsErrOf result AppendLineError.SinkError
             → self.new.device.calls ≡ replace_called self.old.device.calls }
     {
-        // (for the proof: what the snapshot records of its last lines is what its sink holds)
+        // (for the proof: the last lines that the snapshot records are those that its sink holds)
         sound_snapshots();
         if self.snapshot.is_stopped() {
             return Err(AppendLineError::Stopped);

@@ -1,4 +1,4 @@
-//! What an agent remembers of its events, or of its queries.
+//! The part of an agent that remembers events, or queries.
 
 ghost use Rattle.std.specs.Prelude.{◌≡◌, ℕ, ◌<◌, ◌≤◌, ◌-◌, ◌+◌, ◌*◌, true, All, List, [], ◌∷◌, ◌++◌, max, map, length, OnOk, IfOk, SomeIff};
 ghost use Rattle.serf_lamport.specs.Clock.{observed, max_clock};
@@ -48,7 +48,7 @@ pub(crate) type EventTrack = Track<EventBody>;
 pub(crate) type QueryTrack = Track<u32>;
 
 impl<K: Drop> Track<K> {
-    /// A track that holds nothing and draws the time 1 first. Allocates no memory.
+    /// Makes a track that holds nothing. Its clock draws the time 1 first. Allocates no memory.
     fn new(alloc: Global, slot_count: u64, per_time: u64) -> Track<K>
         requires some_slot { 0 < slot_count }
         requires max_slots { slot_count ≤ max_slot_count }
@@ -71,8 +71,8 @@ impl<K: Drop> Track<K> {
         }
     }
 
-    /// A track that holds nothing, and accepts only what is later than a snapshot's last clock, `last`. Allocates no
-    /// memory.
+    /// Makes a track that holds nothing, and that accepts only times later than `last`, a snapshot's last clock.
+    /// Allocates no memory.
     pub(crate) fn after(alloc: Global, slot_count: u64, per_time: u64, last: u64) -> Track<K>
         requires some_slot { 0 < slot_count }
         requires max_slots { slot_count ≤ max_slot_count }
@@ -88,8 +88,8 @@ impl<K: Drop> Track<K> {
         track
     }
 
-    /// The track that restores what a text keeps, if the text has the last clock `last` and the minimum time `lowest`.
-    /// Its clock is above `last`, and at least `lowest`. It accepts no time that is too old for its buffer.
+    /// Restores the track that a text keeps, if the text has the last clock `last` and the minimum time `lowest`. Its
+    /// clock is above `last`, and at least `lowest`. It accepts no time that is too old for its buffer.
     pub(crate) fn recalled<L: BorrowedKey<K>>(
         alloc: Global,
         slot_count: u64,
@@ -117,7 +117,7 @@ impl<K: Drop> Track<K> {
         Ok(track)
     }
 
-    /// How many entries the window holds.
+    /// The number of entries in the window.
     pub(crate) fn held(&self) -> u64
         ensures count { result ≡ held_count self.now.window.slots }
         ensures bound { result ≤ length self.now.window.slots * self.now.window.per_time }
@@ -125,7 +125,7 @@ impl<K: Drop> Track<K> {
         self.window.held()
     }
 
-    /// The time that the clock draws next. It is 2^64 - 1 if the clock is exhausted, which isn't a time.
+    /// The time that the clock draws next. If the clock is exhausted, this is 2^64 - 1, which isn't a valid time.
     pub(crate) fn time(&self) -> u64
         ensures { result ≡ self.now.clock }
     {
@@ -146,19 +146,19 @@ impl<K: Drop> Track<K> {
         self.window.slots()
     }
 
-    /// The time with which the size of a packet is measured: the next time of the clock, or 2^64 - 2 if the clock is
+    /// The time that is used to compute the size of a packet: the next time of the clock, or 2^64 - 2 if the clock is
     /// exhausted.
     pub(crate) fn measured(&self) -> Time
         ensures { result ≡ drawn self.now.clock }
     {
         match Time::new(self.clock.time().min(u64::MAX - 1)) {
             Some(time) => time,
-            // (it is below 2^64 - 1, and so it is a time)
+            // (it is below 2^64 - 1, so it is a valid time)
             None => unreachable!(),
         }
     }
 
-    /// The time that is drawn next, or `None` if the clock is exhausted. No slot holds this time yet.
+    /// The time that the clock draws next, or `None` if the clock is exhausted. No slot holds this time yet.
     pub(crate) fn next_time(&self) -> Option<Time>
         ensures some { SomeIff result (self.now.clock < max_clock) self.now.clock }
         ensures not_later { time_in self.now.window.slots self.now.clock ≤ self.now.clock }
@@ -168,7 +168,7 @@ impl<K: Drop> Track<K> {
         Time::new(self.clock.time())
     }
 
-    /// Why an entry with this time and key is ignored when it arrives, or `None` if it is new.
+    /// The reason to ignore an entry with this time and key that arrives now, or `None` if the entry is new.
     pub(crate) fn reason<L: BorrowedKey<K>>(&self, time: Time, key: &L) -> Option<Reason>
         ensures reason { (track : ideal.Track K) (n life last : ℕ) → IsTrackSound track life last
             → concrete_of self.now ≡ view_of_track n life track → result

@@ -6,6 +6,9 @@ use Rattle.serf_agent.specs.Lives.{after as ideal_after}
 use Rattle.serf_agent_c.specs.declared.code.Code.TheVariants as codes
 use Rattle.serf_agent_c.specs.declared.call_result.CallResult.TheVariants as call_results
 use Rattle.serf_agent_c.specs.Bursts.{Outcome}
+use Rattle.serf_agent_c.specs.Bursts as bursts
+use Rattle.serf_agent_c.specs.HostLaws.{WentInBurst, WentToCompact, lost, made, pauses, renewed, stays}
+use Rattle.serf_agent_c.specs.declared.burst_outcome.BurstOutcome.TheVariants as burst_outcomes
 use Rattle.serf_agent_c.proofs.HandedOnce.{Recalls, call_result_entries, gives-none, nothing}
 use Rattle.serf_agent_c.proofs.BurstLaws.{fire-plain, query-fire-plain, receive-plain, IsPlain, plain-if, calm-after, calm-kept, device-bytes, kept-step}
 
@@ -248,13 +251,8 @@ more-at : (replaces : Bool) (file lacks line more : List ℕ) → more ≡ lacks
 more-at true file lacks line more is = is ∙ ap (λ (xs : List ℕ). lacks ++ xs) (append-nil line)
 more-at false file lacks line more is = ap (λ (xs : List ℕ). file ++ xs) (is ∙ ap (λ (xs : List ℕ). lacks ++ xs) (append-nil line)) ∙ sym (append_assoc file lacks line)
 
--- a call of a burst: either there was no memory for it, or the ideal agent took the step and its answer waits
-pub data Bursted {R : Type 0} (burst_outcome : R → BurstOutcome) (i : IdealAgent) (call : Call R) (file : List ℕ) (s t : Session) : Type 0 where
-  lost : Follows i file t → t.burst.items ≡ s.burst.items → Bursted burst_outcome i call file s t
-  made : MayEnd i call Kept → Follows (ended i call Kept).agent file t → t.burst.items ≡ s.burst.items ++ burst_outcome (ended i call Kept).answer ∷ [] → Bursted burst_outcome i call file s t
-
 pub bursted : {R : Type 0} (burst_outcome : R → BurstOutcome) (f : IdealAgent → Call R) (call : BurstCall) → ((j : IdealAgent) → outcome_of j call ≡ outcome burst_outcome j (f j)) → ((j : IdealAgent) → IsPlain j (f j))
-    → (s t : Session) (code : Code) (i : IdealAgent) (file : List ℕ) → Stands s t → Leaves s t code → Extends call s t code → Follows i file s → Bursted burst_outcome i (f i) file s t
+    → (s t : Session) (code : Code) (i : IdealAgent) (file : List ℕ) → Stands s t → Leaves s t code → Extends call s t code → Follows i file s → WentInBurst burst_outcome i (f i) file s t
 bursted {R} burst_outcome f call is plain s t code i file stands leaves extends k = elim (want code) [
   | inl out ↦
       (let l = leaves out in
@@ -372,12 +370,22 @@ compacted s t code i file says f = by (is_ready s) refl
       | inr other ↦ goes-on is other
     ]
 
+-- a compaction, without what a host's results have of it
+compaction-step : (i : IdealAgent) (file : List ℕ) (s t : Session) (code : Code) → Compacted i file s t code → WentToCompact i file s t code
+compaction-step i file s t code (idle unready same is) = pauses unready same
+compaction-step i file s t code (refuses ready follows other none) = stays ready other follows
+compaction-step i file s t code (renews ready may follows new done none durable recalls) = renewed ready done may follows new durable
+
 pub host_steps : HostSteps
 host_steps = record {
   fires = λ name payload coalesce s t code i file says f. called (λ r. call_results.Fired r) fire_code (λ i. fire i (event_of name payload) coalesce) (fire-plain (event_of name payload) coalesce) s t code i file says.0 (λ ready. (says.1 ready).text) f;
   receives = λ tags now packet s t code i file says f. called (λ r. call_results.Received r) receive_code (λ i. receive tags i now packet) (receive-plain tags now packet) s t code i file says.0 (λ ready. (says.1 ready).text) f;
   asks = λ now id name payload addr params s t code i file says f. called (λ r. call_results.QueryFired r) query_code (λ i. fire_query i now id name payload (params_of s.filters addr params)) (query-fire-plain now id name payload (params_of s.filters addr params)) s t code i file says.0 (λ ready. (says.1 ready).2) f;
   saves = λ s t code i file says f. called (λ r. call_results.LineAppended r) append_line_code (λ i. save i) save-plain s t code i file says.0 (λ ready. (says.1 ready).text) f;
+  compacts = λ s t code i file says f. compaction-step i file s t code (compacted s t code i file says f);
+  fires_in_burst = λ name payload coalesce s t code i file says f. bursted (λ r. burst_outcomes.Fired r) (λ j. fire j (event_of name payload) coalesce) (bursts.Fires name payload coalesce) (λ j. refl) (fire-plain (event_of name payload) coalesce) s t code i file says.0 says.1 says.2 f;
+  receives_in_burst = λ tags now packet s t code i file says f. bursted (λ r. burst_outcomes.Received r) (λ j. receive tags j now packet) (bursts.Receives tags now packet) (λ j. refl) (receive-plain tags now packet) s t code i file says.0 says.1 says.2 f;
+  asks_in_burst = λ now id name payload params s t code i file says f. bursted (λ r. burst_outcomes.QueryFired r) (λ j. fire_query j now id name payload params) (bursts.Asks now id name payload params) (λ j. refl) (query-fire-plain now id name payload params) s t code i file says.0 says.1 says.2 f;
   writes = written-follows;
   opens = opens-follows;
 }

@@ -7,7 +7,8 @@ use Rattle.serf_agent_c.specs.Bursts.{Follows as FollowsNext}
 use Rattle.serf_snapshot.specs.declared.kind.ClockKind.TheVariants as kinds
 use Rattle.serf_agent_c.specs.declared.code.Code.TheVariants as codes
 use Rattle.serf_agent_c.proofs.OtherLines.{Reading}
-use Rattle.serf_agent_c.proofs.HostLaws.{Bursted, Compacted, idle, refuses, renews, ready-parts, lost, made, observed-follows, same-agent, text-ready, unobserved-follows, want}
+use Rattle.serf_agent_c.proofs.HostLaws.{Compacted, idle, refuses, renews, ready-parts, observed-follows, same-agent, text-ready, unobserved-follows, want}
+use Rattle.serf_agent_c.specs.HostLaws.{WentInBurst, lost, made}
 use Rattle.serf_agent_c.proofs.HandedOnce.{Given, Knows, Recalls, both, call_result_entries, gives-none, join-assoc, join-nothing, knows-front, knows-swapped, nothing, outs, ◌⊕◌}
 
 -- what the crates below promise
@@ -225,7 +226,7 @@ beside-hosted h t k call_result replaces burst j f durable recalls =
     shown-hosted (beside h t) (record { agent = j; follows = f; durable = durable; once = subst (λ (g : Given). Knows j (given_to h ⊕ g)) (sym same) (recalls (given_to h ⊕ due h) k.inside.once) })
     (following-beside h t k.following) (renewed-same h (beside h t) k.renewed refl replaces refl)
 
-pub bursted-hosted : {R : Type 0} (laws : Below) (burst_outcome : R → BurstOutcome) (h : Host) (t : Session) (act : Act) (i : IdealAgent) (call : Call R) (k : IsHosted h) → i ≡ k.inside.agent → t.call_result ≡ h.session.call_result → t.replaces ≡ h.session.replaces → Bursted burst_outcome i call h.file h.session t
+pub bursted-hosted : {R : Type 0} (laws : Below) (burst_outcome : R → BurstOutcome) (h : Host) (t : Session) (act : Act) (i : IdealAgent) (call : Call R) (k : IsHosted h) → i ≡ k.inside.agent → t.call_result ≡ h.session.call_result → t.replaces ≡ h.session.replaces → WentInBurst burst_outcome i call h.file h.session t
     → lives.after i act ≡ (ended i call Kept).agent → (MayEnd i call Kept → MayAct i act) → MayKeep i act → outs i act ≡ call_result_entries (call_result_of (burst_outcome (ended i call Kept).answer)) → IsHosted (shown (beside h t))
 bursted-hosted laws burst_outcome h t act i call k is call_result replaces (lost f burst) becomes may keep out =
     beside-hosted h t k call_result replaces burst k.inside.agent (subst (λ (j : IdealAgent). Follows j h.file t) is f) k.inside.durable (λ a knows. knows)

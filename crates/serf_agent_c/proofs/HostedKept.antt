@@ -2,7 +2,8 @@
 use Rattle.serf_agent_c.proofs.Names.{Bool, Err, List, None, Ok, Option, Result, Some, [], ap, append-nil, append_assoc, arith, cond, drop, false, inl, inr, length, map, refl, subst, sym, true, ℕ, ◌&&◌, ◌++◌, ◌+◌, ◌-◌, ◌<◌, ◌^◌, ◌∙◌, ◌∷◌, ◌≡◌, ◌≢◌, ◌≤◌, ◌⊎◌, map-append, Contains, observed, AreBytes, decoded, PushPull, push_pull, EventBody, Device, fresh_device, min_in, Kept, event_of, TimedEntry, Call, MayEnd, Replaces, answers, ended, is_sound, fire, IdealAgent, IsFull, SnapshotView, Track, with_snapshot, IsOpenAt, allowed, last_line, max, KeepsSettings, TellsNoneAbove, stood_after, IsDurable, MayGoOn, MayKeep, StartsWithDurable, whatever, Act, Asks, Closes, Compacts, Fires, Gets, Hears, MayAct, Opens, Saves, Takes, after, event_entry, clock_state, fire_query, receive, receive_read, HasPast, IsSound, delivered, handed_by, joined, save, written_lines, TakesOrFull, TakingLaws, event_track, got_query, query_track, ConcreteState, view_of, Config, EventOut, Outcome, QueryParams, ReceiveError, BurstCall, IsFlushed, call_result_of, events_in, Follows, Went, goes, rests, waits, Add, Burst, Calls, CloseDue, Compact, Dies, Export, Fire, Forget, Host, IsPassed, KeepsTo, LocalState, Merge, Met, Next, Observe, Offers, Query, Receive, Respond, Save, Says, Showing, all_met, clock_after, did, enters, event_kind, met_at, query_kind, replacing, shown, GoesOn, IsFresh, config_of, Appends, is_ready, pending_bytes, BurstOutcome, Code, CallResult, Params, Settings, Session}
 use Rattle.std.specs.Prelude.{flat_map}
 use Rattle.serf_agent_c.proofs.BurstLaws.{IsPlain, runs-after, kept-step, receive-plain}
-use Rattle.serf_agent_c.proofs.HostLaws.{Bursted, Compacted, closed-follows, host_steps, idle, lost, made, observed-follows, refuses, renews, same-agent, save-plain, text-ready, unobserved-follows, want}
+use Rattle.serf_agent_c.proofs.HostLaws.{Compacted, closed-follows, host_steps, idle, observed-follows, refuses, renews, same-agent, save-plain, text-ready, unobserved-follows, want}
+use Rattle.serf_agent_c.specs.HostLaws.{WentInBurst, lost, made}
 use Rattle.serf_agent_c.proofs.HandedOnce.{made-now, Given, adds, full-wider, goes-wider, joins, event-read, query-read, unmet}
 use Rattle.serf_agent_c.proofs.OtherLines.{left_with}
 use Rattle.serf_agent_c.proofs.HostedCalls.{Below, fired_queries-out, fired-out, hears-quietly, may-hear, no-asking, not-replacing, received-out, replacing-other, told, top-or}
@@ -177,7 +178,7 @@ pub waiting-since : {K : Type 0} (kind : Showing K) (call : BurstCall) (s t : Se
 waiting-since {K} kind call s t x burst =
     ap (λ (xs : List BurstOutcome). flat_map (λ y. kind.entered (Burst call) (call_result_of y)) xs) (ap (λ (xs : List BurstOutcome). drop (length s.burst.items) xs) burst ∙ following s.burst.items (x ∷ [])) ∙ append-nil (kind.entered (Burst call) (call_result_of x))
 
-pub bursted-within : {K R : Type 0} (laws : Below) (kind : Showing K) (track : Tracking kind) (g : Aim) (burst_outcome : R → BurstOutcome) (file : List ℕ) (s t : Session) (met : List (TimedEntry K)) (w : Within kind g file s met) (act : Act) (once : BurstCall) (call : Call R) → Bursted burst_outcome w.agent call file s t → IsPlain w.agent call
+pub bursted-within : {K R : Type 0} (laws : Below) (kind : Showing K) (track : Tracking kind) (g : Aim) (burst_outcome : R → BurstOutcome) (file : List ℕ) (s t : Session) (met : List (TimedEntry K)) (w : Within kind g file s met) (act : Act) (once : BurstCall) (call : Call R) → WentInBurst burst_outcome w.agent call file s t → IsPlain w.agent call
     → after w.agent act ≡ (ended w.agent call Kept).agent → (MayEnd w.agent call Kept → Doing kind g w.agent act) → kind.which.entered w.agent act ≡ kind.entered (Burst once) (call_result_of (burst_outcome (ended w.agent call Kept).answer)) → Within kind g file t (met ++ enters kind (Burst once) s t)
 bursted-within laws kind track g burst_outcome file s t met w act once call (lost follows burst) plain becomes doing is = still kind g file s t met (enters kind (Burst once) s t) w follows
 bursted-within laws kind track g burst_outcome file s t met w act once call (made ends follows burst) plain becomes doing is =

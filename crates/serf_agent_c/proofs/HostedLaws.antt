@@ -1,5 +1,5 @@
 -- What the getters may have returned to a host in C over all its lives, and that the host misses nothing new.
-use Rattle.serf_agent_c.proofs.Names.{Bool, Err, List, None, Ok, Option, Result, Some, [], ap, append-nil, append_assoc, arith, cond, drop, false, inl, inr, not, refl, subst, sym, true, ℕ, ◌&&◌, ◌++◌, ◌||◌, ◌∙◌, ◌∷◌, ◌≡◌, ◌≢◌, ◌≤◌, ◌⊎◌, All-head, All-tail, All, EventsHaveBytes, Message, foreign, push_pull, query, query_response, user_event, fresh_device, min_in, Kept, AppendLineError, event_of, TimedEntry, Call, ended, is_sound, fire, DeliveredQuery, DiffersInOtherLines, IdealAgent, IsDurable, IsMessageWritable, IsActWritable, IsWritable, StartsWithDurable, whatever, Asks, Fires, Gets, Opens, Saves, first_life, fire_query, receive, IsSound, save, TakesOrFull, AgentState, FireError, Fired, FiredQuery, QueryError, params_of, reply_of, IsFlushed, Waits, Follows, GivesExactly, Went, goes, rests, waits, Add, BeginsWith, Burst, Calls, CloseDue, Compact, Deed, Dies, Export, Fire, Forget, GivesLater, GivesOnce, GivesQueriesLater, GivesQueriesOnce, Host, IsPassed, KeepsTo, LocalState, MayDo, MayHost, Merge, Met, MissesNone, Next, Observe, Query, Receive, Respond, Save, Says, Showing, Writes, all_met, did, enters, first_host, first_met, gives, hosted, met_after, met_in, replacing, shown, text_at, waiting_at, GoesOn, IsFresh, config_of, kind_of, is_ready, settled, is_written, text_of, BurstOutcome, Code, CallResult, Settings, Session}
+use Rattle.serf_agent_c.proofs.Names.{Bool, Err, List, None, Ok, Option, Result, Some, [], ap, append-nil, append_assoc, arith, cond, drop, false, inl, inr, not, refl, subst, sym, true, ℕ, ◌&&◌, ◌++◌, ◌||◌, ◌∙◌, ◌∷◌, ◌≡◌, ◌≢◌, ◌≤◌, ◌⊎◌, All-head, All-tail, All, EventsHaveBytes, Message, foreign, push_pull, query, query_response, user_event, fresh_device, min_in, Kept, AppendLineError, event_of, TimedEntry, Call, ended, is_sound, fire, DeliveredQuery, DiffersInOtherLines, IdealAgent, IsDurable, IsMessageWritable, IsActWritable, IsWritable, StartsWithDurable, whatever, Asks, Fires, Gets, Opens, Saves, first_life, fire_query, receive, IsSound, save, TakesOrFull, AgentState, FireError, Fired, FiredQuery, QueryError, params_of, reply_of, IsFlushed, Waits, Follows, GivesExactly, Went, WentInBurst, goes, lost, made, rests, waits, Add, BeginsWith, Burst, Calls, CloseDue, Compact, Deed, Dies, Export, Fire, Forget, GivesLater, GivesLaterInBursts, GivesOnce, GivesQueriesLater, GivesQueriesLaterInBursts, GivesQueriesOnce, Host, IsPassed, KeepsTo, LocalState, MayDo, MayHost, Merge, Met, MissesNone, Next, Observe, Query, Receive, Respond, Save, Says, Showing, Writes, all_met, did, enters, first_host, first_met, gives, hosted, met_after, met_in, replacing, shown, text_at, waiting_at, GoesOn, IsFresh, config_of, kind_of, is_ready, settled, is_written, text_of, BurstOutcome, Code, CallResult, Settings, Session}
 use Rattle.serf_agent.specs.declared.outcome.Outcome.TheVariants as outcomes
 use Rattle.serf_agent.specs.Lives as lives
 use Rattle.serf_agent_c.specs.declared.call_result.CallResult.TheVariants as call_results
@@ -248,6 +248,39 @@ gives_later laws = λ name settings text first t deeds what payload flag code f 
     let r : Result Fired FireError = (ended i call Kept).answer in
     let e : call_results.Fired r ≡ call_results.Fired (Ok f) = answer-given (λ r. call_results.Fired r) i call h.file h.session t (call_results.Fired (Ok f)) ready call_result (λ none. let no : 8 ≡ 0 = none in absurd (omega (arith, no))) (host_steps.fires what payload flag h.session t code i h.file says k.inside.follows) in
     laws.fires i (event_of what payload) flag Kept f h.given k.inside.follows.sound (given-known h k).0 (let same : r ≡ Ok f = cc in same)
+
+-- the outcome of a call in a burst is the agent's answer
+longer : {A : Type 0} (xs : List A) (x : A) → xs ≡ xs ++ x ∷ [] → ⊥
+longer [] x is = cc
+longer {A} (y ∷ ys) x is = longer ys x (let rest : ys ≡ ys ++ x ∷ [] = cc in rest)
+
+last-same : {A : Type 0} (xs : List A) (x y : A) → xs ++ x ∷ [] ≡ xs ++ y ∷ [] → x ≡ y
+last-same [] x y is = cc
+last-same {A} (z ∷ zs) x y is = last-same zs x y (let rest : zs ++ x ∷ [] ≡ zs ++ y ∷ [] = cc in rest)
+
+answer-queued : {R : Type 0} (burst_outcome : R → BurstOutcome) (i : IdealAgent) (call : Call R) (file : List ℕ) (s t : Session) (x : BurstOutcome) → t.burst.items ≡ s.burst.items ++ x ∷ [] → WentInBurst burst_outcome i call file s t → burst_outcome (ended i call Kept).answer ≡ x
+answer-queued burst_outcome i call file s t x at (lost follows same) = absurd (longer s.burst.items x (sym same ∙ at))
+answer-queued burst_outcome i call file s t x at (made may follows queued) = last-same s.burst.items (burst_outcome (ended i call Kept).answer) x (sym queued ∙ at)
+
+pub gives_later_in_bursts : Below → GivesLaterInBursts
+gives_later_in_bursts laws = λ name settings text first t deeds what payload flag code f ok goes_on fresh may says queued.
+    let h = hosted (first_host text first) deeds in
+    let k = all-hosted laws name settings text first deeds ok goes_on fresh may in
+    let i = k.inside.agent in
+    let call = fire i (event_of what payload) flag in
+    let r : Result Fired FireError = (ended i call Kept).answer in
+    let e : answereds.Fired r ≡ answereds.Fired (Ok f) = answer-queued (λ r. answereds.Fired r) i call h.file h.session t (answereds.Fired (Ok f)) queued (host_steps.fires_in_burst what payload flag h.session t code i h.file says k.inside.follows) in
+    laws.fires i (event_of what payload) flag Kept f h.given k.inside.follows.sound (given-known h k).0 (let same : r ≡ Ok f = cc in same)
+
+pub gives_queries_later_in_bursts : Below → GivesQueriesLaterInBursts
+gives_queries_later_in_bursts laws = λ name settings text first t deeds now id what payload params code f ok goes_on fresh may says queued.
+    let h = hosted (first_host text first) deeds in
+    let k = all-hosted laws name settings text first deeds ok goes_on fresh may in
+    let i = k.inside.agent in
+    let call = fire_query i now id what payload params in
+    let r : Result FiredQuery QueryError = (ended i call Kept).answer in
+    let e : answereds.QueryFired r ≡ answereds.QueryFired (Ok f) = answer-queued (λ r. answereds.QueryFired r) i call h.file h.session t (answereds.QueryFired (Ok f)) queued (host_steps.asks_in_burst now id what payload params h.session t code i h.file says k.inside.follows) in
+    laws.asks i now id what payload params Kept f h.queries k.inside.follows.sound (given-known h k).1 (let same : r ≡ Ok f = cc in same)
 
 pub gives_queries_later : Below → GivesQueriesLater
 gives_queries_later laws = λ name settings text first t deeds now id what payload addr params code f ok goes_on fresh may ready says call_result.

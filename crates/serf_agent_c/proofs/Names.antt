@@ -140,9 +140,9 @@ pub use Rattle.serf_agent_c.specs.Bursts.{outcome, outcome_of}
 pub use Rattle.serf_agent_c.specs.Calls.{Waits, answer_code}
 pub use Rattle.serf_agent_c.specs.Codes.{fire_code, append_line_code, number_of, open_code, query_code, receive_code}
 pub use Rattle.serf_agent_c.specs.ResultParts.{events_in, handed_in, unsettled_in}
-pub use Rattle.serf_agent_c.specs.HostLaws.{CodesDiffer, Follows, GivesExactly, HostSteps, Went, goes, rests, waits}
+pub use Rattle.serf_agent_c.specs.HostLaws.{CodesDiffer, Follows, GivesExactly, HostSteps, Went, WentInBurst, goes, lost, made, rests, waits}
 pub use Rattle.serf_agent_c.specs.Hosts.{Add, BeginsWith, BringsEvent, Burst, Called, Calls, CloseDue, Compact, Deed, Dies, Export, Fire, Forget}
-pub use Rattle.serf_agent_c.specs.Hosts.{GivesLater, GivesNew, GivesOnce, GivesQueriesLater, GivesQueriesOnce, HoldsEvent, Host, IsPassed, KeepsTo}
+pub use Rattle.serf_agent_c.specs.Hosts.{GivesLater, GivesLaterInBursts, GivesNew, GivesOnce, GivesQueriesLater, GivesQueriesLaterInBursts, GivesQueriesOnce, HoldsEvent, Host, IsPassed, KeepsTo}
 pub use Rattle.serf_agent_c.specs.Hosts.{LocalState, MayDo, MayHost, Merge, Met, MissesNone, Next, Observe, Offers, Query, Receive, Respond, Save, Says}
 pub use Rattle.serf_agent_c.specs.Hosts.{Showing, TakesNewQueries, Writes, all_met, clock_after, clock_heard, did, enters, event_kind, first_host}
 pub use Rattle.serf_agent_c.specs.Hosts.{first_met, gives, hosted, met_after, met_at, met_in, queries_by, query_kind, replacing, shown, text_at}

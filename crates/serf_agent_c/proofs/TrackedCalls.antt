@@ -16,7 +16,8 @@ use Rattle.serf_agent.specs.declared.outcome.FireError.TheVariants as fires
 use Rattle.serf_agent.specs.declared.outcome.Reason.TheVariants as reasons
 use Rattle.serf_agent_c.specs.TrackedHosts.{event_of_entry}
 use Rattle.serf_agent_c.proofs.BurstLaws.{IsPlain}
-use Rattle.serf_agent_c.proofs.HostLaws.{Bursted, durable-after, lost, made, ready-parts}
+use Rattle.serf_agent_c.proofs.HostLaws.{durable-after, ready-parts}
+use Rattle.serf_agent_c.specs.HostLaws.{WentInBurst, lost, made}
 use Rattle.serf_agent_c.proofs.HostedKept.{waiting-since}
 use Rattle.serf_agent_c.proofs.TrackedLines.{Handling, Hands, hands-both, hands-event, hands-nothing, hands-silent}
 
@@ -204,7 +205,7 @@ drop-all (x ∷ xs) = drop-all xs
 none-since : (call : BurstCall) (s t : Session) → t.burst.items ≡ s.burst.items → enters event_kind (Burst call) s t ≡ []
 none-since call s t same = ap (λ (xs : List BurstOutcome). flat_map (λ (y : BurstOutcome). map event_entry (events_in (call_result_of y))) (drop (length s.burst.items) xs)) same ∙ ap (λ (xs : List BurstOutcome). flat_map (λ (y : BurstOutcome). map event_entry (events_in (call_result_of y))) xs) (drop-all s.burst.items)
 
-pub bursted-adds : {R : Type 0} → Handling → (burst_outcome : R → BurstOutcome) (i : IdealAgent) (once : BurstCall) (call : Call R) (file : List ℕ) (s t : Session) (es : List (TimedEntry EventBody)) → Bursted burst_outcome i call file s t → Follows i file s → IsPlain i call → Leads i call es → t.replaces ≡ s.replaces
+pub bursted-adds : {R : Type 0} → Handling → (burst_outcome : R → BurstOutcome) (i : IdealAgent) (once : BurstCall) (call : Call R) (file : List ℕ) (s t : Session) (es : List (TimedEntry EventBody)) → WentInBurst burst_outcome i call file s t → Follows i file s → IsPlain i call → Leads i call es → t.replaces ≡ s.replaces
     → es ≡ map event_entry (events_in (call_result_of (burst_outcome (ended i call Kept).answer))) → Adds file s t (enters event_kind (Burst once) s t)
 bursted-adds laws burst_outcome i once call file s t es (lost g burst) f plain leads replaces is = adds-nothing file s t (enters event_kind (Burst once) s t) i i f g refl refl replaces (none-since once s t burst)
 bursted-adds laws burst_outcome i once call file s t es (made ends g burst) f plain leads replaces is =

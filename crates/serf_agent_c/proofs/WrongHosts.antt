@@ -1,6 +1,6 @@
 -- Small lives of a host in C that break what it is promised, and the proofs that the promises refuse them. A definition
 -- that was changed so that it promises nothing doesn't pass here.
-use Rattle.serf_agent_c.proofs.Names.{Bool, Err, List, None, Ok, Option, Result, Some, [], ap, arith, cond, false, inl, inr, length, map, refl, subst, sym, true, ℕ, ◌&&◌, ◌++◌, ◌+◌, ◌<◌, ◌∙◌, ◌∷◌, ◌≡◌, ◌≢◌, ◌≤◌, ◌⊎◌, All-head, All-nil, All, AllPairs, Contains, decoded, Message, foreign, push_pull, query, query_response, user_event, WireError, EventBody, min_in, TimedEntry, is_sound, DeliveredQuery, Past, HasMet, IsFull, IsMet, event_entry, query_entries, IsOnce, got_query, EventOut, Fired, FiredQuery, Reason, events_in, handed_in, BeginsWith, Calls, ClockKind, EntryFilter, TimedEvent, last_clock, whatever, Deed, Dies, Export, Fire, GivesLater, GivesNew, GivesOnce, GivesQueriesLater, GivesQueriesOnce, Host, IsPassed, KeepsTo, MayDo, MayHost, Merge, MissesNone, Offers, Query, Receive, Says, Showing, TakesNewQueries, Writes, all_met, clock_after, enters, event_kind, first_host, first_met, hosted, met_after, met_in, queries_by, query_kind, shown, GoesOn, IsFresh, config_of, is_ready, Code, CallResult, Params, Settings, Session}
+use Rattle.serf_agent_c.proofs.Names.{Bool, Err, List, None, Ok, Option, Result, Some, [], ap, arith, cond, false, inl, inr, length, map, refl, subst, sym, true, ℕ, ◌&&◌, ◌++◌, ◌+◌, ◌<◌, ◌∙◌, ◌∷◌, ◌≡◌, ◌≢◌, ◌≤◌, ◌⊎◌, All-head, All-nil, All, AllPairs, Contains, decoded, Message, foreign, push_pull, query, query_response, user_event, WireError, EventBody, min_in, TimedEntry, is_sound, DeliveredQuery, Past, HasMet, IsFull, IsMet, event_entry, query_entries, IsOnce, got_query, EventOut, Fired, FiredQuery, Reason, events_in, handed_in, BeginsWith, Calls, ClockKind, EntryFilter, TimedEvent, last_clock, whatever, Deed, Dies, Export, Burst, Fire, GivesLater, GivesLaterInBursts, GivesNew, GivesOnce, GivesQueriesLater, GivesQueriesLaterInBursts, GivesQueriesOnce, Host, IsPassed, KeepsTo, MayDo, MayHost, Merge, MissesNone, Offers, Query, Receive, Says, Showing, TakesNewQueries, Writes, all_met, clock_after, enters, event_kind, first_host, first_met, hosted, met_after, met_in, queries_by, query_kind, shown, GoesOn, IsFresh, config_of, is_ready, Code, CallResult, Params, QueryParams, Settings, Session}
 use Rattle.serf_agent_c.specs.declared.code.Code.TheVariants.{OutOfMemory}
 use Rattle.std.specs.Prelude.{codes}
 use Rattle.serf_snapshot.specs.EventLines as lines
@@ -9,6 +9,8 @@ use Rattle.serf_agent_c.proofs.HandedOnce.{made-now, none-there, unmet}
 use Rattle.serf_agent_c.proofs.OtherLines.{Reading}
 use Rattle.serf_agent_c.specs.declared.call_result.CallResult.TheVariants as call_results
 use Rattle.serf_agent.specs.declared.outcome.Outcome.TheVariants as outcomes
+use Rattle.serf_agent_c.specs.Bursts as bursts
+use Rattle.serf_agent_c.specs.declared.burst_outcome.BurstOutcome.TheVariants as burst_outcomes
 
 -- a host to which an event was handed out twice, and one to which a query was
 twice_refused : {K : Type 0} (es : List (TimedEntry K)) (e : TimedEntry K) → es ≡ e ∷ e ∷ [] → AllPairs (λ x y. x ≢ y) es → ⊥
@@ -35,6 +37,18 @@ later_refuses name settings text first t deeds what payload coalesce code f e ok
 pub queries_later_refuses : (name : List ℕ) (settings : Settings) (text : List ℕ) (first t : Session) (deeds : List Deed) (now id : ℕ) (what payload addr : List ℕ) (params : Params) (code : Code) (f : FiredQuery) (q : TimedEntry ℕ) → is_sound (config_of name settings) ≡ true → GoesOn name settings text first → IsFresh text first
     → MayHost name (first_host text first) deeds → is_ready (hosted (first_host text first) deeds).session ≡ true → Says (Query now id what payload addr params) (hosted (first_host text first) deeds).session t code → t.call_result ≡ call_results.QueryFired (Ok f) → (hosted (first_host text first) deeds).queries ≡ q ∷ [] → q.time ≡ f.time → GivesQueriesLater → ⊥
 queries_later_refuses name settings text first t deeds now id what payload addr params code f q ok on fresh may ready says call_result given same later = not_later_refused (hosted (first_host text first) deeds).queries q f.time given same (later name settings text first t deeds now id what payload addr params code f ok on fresh may ready says call_result)
+
+-- the same of an event that is fired in a burst
+pub later_in_bursts_refuses : (name : List ℕ) (settings : Settings) (text : List ℕ) (first t : Session) (deeds : List Deed) (what payload : List ℕ) (coalesce : Bool) (code : Code) (f : Fired) (e : TimedEntry EventBody) → is_sound (config_of name settings) ≡ true → GoesOn name settings text first → IsFresh text first
+    → MayHost name (first_host text first) deeds → Says (Burst (bursts.Fires what payload coalesce)) (hosted (first_host text first) deeds).session t code → t.burst.items ≡ (hosted (first_host text first) deeds).session.burst.items ++ burst_outcomes.Fired (Ok f) ∷ [] → (hosted (first_host text first) deeds).given ≡ e ∷ []
+    → e.time ≡ f.handed.time → GivesLaterInBursts → ⊥
+later_in_bursts_refuses name settings text first t deeds what payload coalesce code f e ok on fresh may says queued given same later = not_later_refused (hosted (first_host text first) deeds).given e f.handed.time given same (later name settings text first t deeds what payload coalesce code f ok on fresh may says queued)
+
+-- and of a query
+pub queries_later_in_bursts_refuses : (name : List ℕ) (settings : Settings) (text : List ℕ) (first t : Session) (deeds : List Deed) (now id : ℕ) (what payload : List ℕ) (params : QueryParams) (code : Code) (f : FiredQuery) (q : TimedEntry ℕ) → is_sound (config_of name settings) ≡ true → GoesOn name settings text first → IsFresh text first
+    → MayHost name (first_host text first) deeds → Says (Burst (bursts.Asks now id what payload params)) (hosted (first_host text first) deeds).session t code → t.burst.items ≡ (hosted (first_host text first) deeds).session.burst.items ++ burst_outcomes.QueryFired (Ok f) ∷ [] → (hosted (first_host text first) deeds).queries ≡ q ∷ []
+    → q.time ≡ f.time → GivesQueriesLaterInBursts → ⊥
+queries_later_in_bursts_refuses name settings text first t deeds now id what payload params code f q ok on fresh may says queued given same later = not_later_refused (hosted (first_host text first) deeds).queries q f.time given same (later name settings text first t deeds now id what payload params code f ok on fresh may says queued)
 
 -- a host that met nothing and ignores a new event, or a new query; and one whose merge leaves out an event
 few-refused : {K : Type 0} (k t : ℕ) → 0 < k → HasMet {K = K} k t [] [] → ⊥

@@ -15,6 +15,7 @@ use Rattle.serf_snapshot.specs.EventLines.{min_in}
 use Rattle.serf_snapshot.specs.OtherLines.{DiffersInOtherLines}
 use Rattle.serf_agent.specs.declared.outcome.Fired.{Fired}
 use Rattle.serf_agent.specs.declared.outcome.FiredQuery.{FiredQuery}
+use Rattle.serf_agent.specs.declared.outcome.QueryParams.{QueryParams}
 use Rattle.serf_agent.specs.Calls.{Call}
 use Rattle.serf_agent.specs.Config.{is_sound}
 use Rattle.serf_agent.specs.Events.{fire}
@@ -26,6 +27,7 @@ use Rattle.serf_agent.specs.Queries.{fire_query}
 use Rattle.serf_agent.specs.Receive.{receive}
 use Rattle.serf_agent.specs.States.{compact, events_of, save}
 use Rattle.serf_agent.specs.TrackOf.{BringsQuery, TrackOf, asked_query, event_track, got_query, query_track}
+use Rattle.serf_agent_c.specs.declared.burst_outcome.BurstOutcome.TheVariants as burst_outcomes
 use Rattle.serf_agent_c.specs.declared.code.Code.{Code}
 use Rattle.serf_agent_c.specs.declared.code.Code.TheVariants.{Done, OutOfMemory}
 use Rattle.serf_agent_c.specs.declared.call_result.CallResult.{CallResult}
@@ -196,6 +198,18 @@ abbrev pub GivesQueriesLater : Type 0
 GivesQueriesLater =
     (name : List ℕ) (settings : Settings) (text : List ℕ) (first t : Session) (deeds : List Deed) (now id : ℕ) (what payload addr : List ℕ) (params : Params) (code : Code) (f : FiredQuery) → is_sound (config_of name settings) ≡ true → GoesOn name settings text first → IsFresh text first → MayHost name (first_host text first) deeds
     → let before = hosted (first_host text first) deeds in is_ready before.session ≡ true → Says (Query now id what payload addr params) before.session t code → t.call_result ≡ call_results.QueryFired (Ok f) → All (λ e. e.time < f.time) before.queries
+
+-- The same is true of an event that is fired in a burst, when its outcome begins to wait.
+abbrev pub GivesLaterInBursts : Type 0
+GivesLaterInBursts =
+    (name : List ℕ) (settings : Settings) (text : List ℕ) (first t : Session) (deeds : List Deed) (what payload : List ℕ) (coalesce : Bool) (code : Code) (f : Fired) → is_sound (config_of name settings) ≡ true → GoesOn name settings text first → IsFresh text first → MayHost name (first_host text first) deeds
+    → let before = hosted (first_host text first) deeds in Says (Burst (bursts.Fires what payload coalesce)) before.session t code → t.burst.items ≡ before.session.burst.items ++ burst_outcomes.Fired (Ok f) ∷ [] → All (λ e. e.time < f.handed.time) before.given
+
+-- The same is true of a query that is fired in a burst.
+abbrev pub GivesQueriesLaterInBursts : Type 0
+GivesQueriesLaterInBursts =
+    (name : List ℕ) (settings : Settings) (text : List ℕ) (first t : Session) (deeds : List Deed) (now id : ℕ) (what payload : List ℕ) (params : QueryParams) (code : Code) (f : FiredQuery) → is_sound (config_of name settings) ≡ true → GoesOn name settings text first → IsFresh text first → MayHost name (first_host text first) deeds
+    → let before = hosted (first_host text first) deeds in Says (Burst (bursts.Asks now id what payload params)) before.session t code → t.burst.items ≡ before.session.burst.items ++ burst_outcomes.QueryFired (Ok f) ∷ [] → All (λ e. e.time < f.time) before.queries
 
 -- What a host doesn't miss
 

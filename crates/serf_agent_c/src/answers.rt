@@ -1,4 +1,4 @@
-//! Reads an ack's or a response's packet for C.
+//! Reads the packet of an ack or a response for C.
 
 ghost use Rattle.std.specs.Prelude.{◌≢◌, ◌≡◌};
 ghost use Rattle.serf_agent.specs.Answers.{answer_in};
@@ -12,7 +12,7 @@ use crate::heads::AnswerHead;
 use serf_agent::{answer_in, is_ack};
 use serf_wire::QueryResponse;
 
-/// What C reads of `answer`, an ack or a response, apart from its texts.
+/// Makes the struct that C reads for `answer`, an ack or a response. It doesn't contain the texts.
 fn head_of_answer(answer: &QueryResponse) -> AnswerHead
     ensures { result ≡ answer_head (response_said answer.now) }
 {
@@ -25,8 +25,8 @@ fn head_of_answer(answer: &QueryResponse) -> AnswerHead
     }
 }
 
-/// Fills `answer` with the ack or the response in `packet`, and `from` and `payload` with as much of its texts as fits.
-/// If the packet is neither, the code is `Nothing`.
+/// If `packet` is an ack or a response, fills `answer` with it, and `from` and `payload` with as much of its texts as
+/// fits. If the packet is neither, the code is `Nothing`.
 pub(crate) fn read_answer(
     packet: &[u8],
     answer: &mut AnswerHead,

@@ -15,7 +15,7 @@ use serf_agent::{BytesList, FiredQuery, QueryError, QueryParams, Reply, RespondE
 use serf_wire::Bytes;
 use std::alloc::Global;
 
-/// The code that C gets for the agent's `answer` to firing a query.
+/// The code that C gets for `answer`, the agent's result of firing a query.
 pub(crate) fn query_fired_code(answer: &Result<FiredQuery, QueryError>) -> Code
     ensures code { result ≡ answer_code query_code answer.now }
     ensures memory { answer.now ≡ Err QueryError.OutOfMemory → result ≡ Code.OutOfMemory }
@@ -26,7 +26,7 @@ pub(crate) fn query_fired_code(answer: &Result<FiredQuery, QueryError>) -> Code
     }
 }
 
-/// The code that C gets for the `answer` to responding to a query: the response to send, or the error.
+/// The code that C gets for `answer`, the agent's result of responding to a query: the response to send, or the error.
 fn replied_code(answer: &Result<Reply, RespondError>) -> Code
     ensures code { result ≡ answer_code respond_code answer.now }
     ensures memory { answer.now ≡ Err RespondError.OutOfMemory → result ≡ Code.OutOfMemory }
@@ -37,8 +37,8 @@ fn replied_code(answer: &Result<Reply, RespondError>) -> Code
     }
 }
 
-/// How a query is fired: the host's `params`, the `filters` that were added, and `addr`, the address to which answers
-/// are sent.
+/// Makes a query's parameters from the host's `params`, the `filters` that were added, and `addr`, the address to which
+/// answers are sent.
 pub(crate) fn params_with(filters: BytesList, addr: Bytes, params: &Params) -> QueryParams
     ensures { result ≡ params_of filters addr params.now }
 {
@@ -70,8 +70,7 @@ impl Session {
         }
     }
 
-    /// Keeps `filters` for the next query if `code` says that memory ran out. Otherwise drops them, because a query
-    /// used them.
+    /// Keeps `filters` for the next query if memory ran out (`code`). Otherwise drops them, because a query used them.
     pub(crate) fn take_back(&mut self, filters: BytesList, code: Code)
         ensures kept { code ≡ Code.OutOfMemory → self.new.filters ≡ filters }
         ensures forgotten { code ≢ Code.OutOfMemory → KeepsFilters self.old self.new }
@@ -87,8 +86,8 @@ impl Session {
         }
     }
 
-    /// Fires the query `id` at the moment `now`, in nanoseconds, with the filters that were added, and keeps the
-    /// result.
+    /// Fires the query `id` at the moment `now`, in nanoseconds, with the filters that were added, and keeps the result
+    /// for the getters.
     pub(crate) fn query(
         &mut self,
         alloc: Global,
@@ -123,8 +122,7 @@ impl Session {
         code
     }
 
-    /// Answers the query that was handed out as `number` with `payload`, at the moment `now` in nanoseconds, and keeps
-    /// the packet to send.
+    /// Answers query number `number` with `payload`, at the moment `now` in nanoseconds, and keeps the packet to send.
     pub(crate) fn respond(&mut self, alloc: Global, now: u64, number: u64, payload: &[u8]) -> Code
         ensures waits { Waits self.old self.new result }
         ensures agent { self.new.agent ≡ self.old.agent }
@@ -143,7 +141,7 @@ impl Session {
         code
     }
 
-    /// Forgets the query that was handed out as `number`. The code is `NotPending` if no waiting query has this number.
+    /// Forgets query number `number`. The code is `NotPending` if no waiting query has this number.
     pub(crate) fn forget(&mut self, number: u64) -> Code
         ensures waits { Waits self.old self.new result }
         ensures agent { self.new.agent ≡ self.old.agent }
@@ -162,8 +160,9 @@ impl Session {
         }
     }
 
-    /// Closes the agent's own queries whose deadline is before `now`, in nanoseconds, keeps them to be read, and sets
-    /// `closed` to their number. Also forgets the queries that were handed out and whose deadline is before `now`.
+    /// Closes the agent's own queries whose deadline is before the moment `now`, in nanoseconds. Keeps them for the
+    /// getters, and sets `closed` to their number. Also forgets the queries that wait for an answer and whose deadline
+    /// is before `now`.
     pub(crate) fn close_due(&mut self, alloc: Global, now: u64, closed: &mut usize) -> Code
         ensures waits { Waits self.old self.new result }
         ensures late { ForgetsLate now self.old self.new result }

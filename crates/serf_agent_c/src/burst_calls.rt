@@ -1,5 +1,6 @@
-//! The calls of a burst: what C calls through a handle before the host flushes once, and how it reads the results
-//! afterwards. In the clauses, `s` is the session before a call, `t` the session after it, and `code` is what C gets.
+//! The calls that C makes through a handle in a burst, before the host flushes once, and those that read the results
+//! afterwards. In the clauses, `s` is the session before a call, `t` is the session after it, and `code` is the code
+//! that C gets.
 
 ghost use Rattle.std.specs.Prelude.{◌≡◌, ◌≢◌, length, None, true};
 ghost use Rattle.serf_agent_c.specs.Asking.{params_of};
@@ -16,8 +17,8 @@ use crate::heads::Params;
 use std::alloc::Global;
 
 /// Handles the packet that arrived at the moment `now`, in nanoseconds, within a burst. Its outcome waits for
-/// [`serf_agent_next`]. If the packet is a query, `tags_pass` is whether this node's tags pass all its tag filters,
-/// which only the host can know.
+/// [`serf_agent_next`]. If the packet is a query, set `tags_pass` to whether this node's tags pass all of the query's
+/// tag filters, which only the host can know.
 #[unsafe(no_mangle)]
 pub extern "C" fn serf_agent_burst_receive(
     alloc: Global,
@@ -96,9 +97,9 @@ pub extern "C" fn serf_agent_burst_query(
     code.number()
 }
 
-/// Moves on to the next outcome of a burst: the getters read its call's result, and `burst_outcome` is its call's code.
-/// Returns `NOTHING` if no outcome is left, and `PENDING` while bytes are pending for the host's file. If memory runs
-/// out, the outcome keeps waiting.
+/// Moves on to the next outcome of a burst. The getters then read the result of this outcome's call, and
+/// `burst_outcome` is set to its code. Returns `NOTHING` if no outcome is left, and `PENDING` while bytes are pending
+/// for the host's file. If memory runs out, the outcome keeps waiting.
 #[unsafe(no_mangle)]
 pub extern "C" fn serf_agent_next(
     alloc: Global,

@@ -1,5 +1,5 @@
-//! The outcome of a call of a burst. When the host moves on to it, it becomes the result that the getters read
-//! (`CallResult`).
+//! The outcome of a call in a burst. When the host moves on to this outcome, it becomes the result that the getters
+//! read (`CallResult`).
 
 ghost use Rattle.std.specs.Prelude.{◌≡◌};
 ghost use Rattle.serf_agent_c.specs.Bursts.{code_of, call_result_of};
@@ -10,7 +10,7 @@ use crate::calls::{fired_code, received_code};
 use crate::code::Code;
 use serf_agent::{FireError, Fired, FiredQuery, Outcome, QueryError, ReceiveError};
 
-/// How the agent answered a call of a burst: one that received a packet, fired an event, or fired a query.
+/// The agent's result of a call in a burst. The call received a packet, fired an event, or fired a query.
 #[derive(Drop)]
 pub enum BurstOutcome {
     Received(Result<Outcome, ReceiveError>),

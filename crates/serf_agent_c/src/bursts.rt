@@ -1,5 +1,5 @@
-//! Bursts: calls made one after another, whose lines the host flushes together. Their outcomes wait in a list until
-//! then.
+//! A burst is a series of calls whose lines the host flushes together. Until then, the outcomes of the calls wait in a
+//! list.
 
 ghost use Rattle.std.specs.Prelude.{◌≡◌, ◌≢◌, ◌+◌, ◌++◌, ◌<◌, ◌∷◌, ◌^◌, [], false, length, min, None, OnErr, OnOk, true, ◌≤◌};
 ghost use Rattle.std.specs.VecDeque.{deque_capacity, deque_len};
@@ -33,7 +33,7 @@ impl Session {
         self.burst.reserve(1)
     }
 
-    /// Puts `burst_outcome`, the outcome of a call, after those that wait, unless `code` says that memory ran out.
+    /// Appends `burst_outcome`, the outcome of a call, to the waiting outcomes, unless memory ran out (`code`).
     fn wait(&mut self, burst_outcome: BurstOutcome, code: Code)
         requires { deque_len self.old.burst < deque_capacity self.old.burst }
         ensures waits { code ≢ Code.OutOfMemory
@@ -51,8 +51,8 @@ impl Session {
         }
     }
 
-    /// Handles a packet that arrived at the moment `now`, in nanoseconds, and lets its outcome wait. `tags_pass` says
-    /// whether this node's tags pass the query's tag filters.
+    /// Handles a packet that arrived at the moment `now`, in nanoseconds, and queues the outcome. `tags_pass` is true
+    /// if this node's tags pass the query's tag filters.
     pub(crate) fn burst_receive(
         &mut self,
         alloc: Global,
@@ -75,8 +75,7 @@ impl Session {
         code
     }
 
-    /// Fires the event with this `name` and `payload`, and lets its outcome wait. `coalesce` is Serf's flag of the
-    /// event.
+    /// Fires the event with this `name` and `payload`, and queues the outcome. `coalesce` is Serf's flag of the event.
     pub(crate) fn burst_fire(
         &mut self,
         alloc: Global,
@@ -99,8 +98,8 @@ impl Session {
         code
     }
 
-    /// Fires the query `id` at the moment `now`, in nanoseconds, with the filters that were added, and lets its outcome
-    /// wait.
+    /// Fires the query `id` at the moment `now`, in nanoseconds, with the filters that were added, and queues the
+    /// outcome.
     pub(crate) fn burst_query(
         &mut self,
         alloc: Global,
@@ -133,8 +132,8 @@ impl Session {
         code
     }
 
-    /// Moves on to the next outcome, which the getters then read, and sets `burst_outcome` to its call's code. The code
-    /// is `Nothing` if no outcome waits.
+    /// Moves on to the next outcome, so that the getters read it, and sets `burst_outcome` to the code of this
+    /// outcome's call. Returns `Nothing` if no outcome waits.
     pub(crate) fn next(&mut self, burst_outcome: &mut u32) -> Code
         ensures waits { Waits self.old self.new result }
         ensures same { result ≢ Code.Done → burst_outcome.new ≡ burst_outcome.old }

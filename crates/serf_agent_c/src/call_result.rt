@@ -10,34 +10,34 @@ use serf_agent::{
 use serf_snapshot::AppendLineError;
 use serf_wire::Bytes;
 
-/// The result of the last call: what the agent answered, or the error for which it refused the call.
+/// The result of the last call: the agent's result, or the error with which the agent refused the call.
 #[derive(Drop)]
 pub enum CallResult {
     /// No result: no call was made yet, or the last call has nothing to read.
     Nothing,
-    /// No result of the last call. If there is a query here, an earlier call handed it out, and there was no memory to
+    /// The last call has no result. If this contains a query, an earlier call handed it out, and there was no memory to
     /// add it to those that wait.
     Kept(Option<PendingQuery>),
-    /// The outcome of a packet, or the error for which it was refused.
+    /// The outcome of a packet, or the error with which the agent refused it.
     Received(Result<Outcome, ReceiveError>),
-    /// An event that was fired.
+    /// An event that was fired, or the error.
     Fired(Result<Fired, FireError>),
-    /// A query that was fired.
+    /// A query that was fired, or the error.
     QueryFired(Result<FiredQuery, QueryError>),
     /// The events that a push/pull handed out, and the error if not all of it was merged.
     Merged(Vec<EventOut>, Option<MergeError>),
-    /// The packet with the agent's whole state.
+    /// The packet with the agent's whole state, or the error.
     State(Result<Bytes, PushPullError>),
-    /// The response to a query that was handed out.
+    /// The response to a query that was handed out, or the error.
     Replied(Result<Reply, RespondError>),
-    /// A line with the member clock was written, or a compaction was done.
+    /// The result of writing a line with the member clock, or of a compaction.
     LineAppended(Result<(), AppendLineError>),
     /// The queries that were closed, with their times, in the order in which they were fired.
     Closed(Vec<(u64, OpenQuery)>),
 }
 
 impl CallResult {
-    /// The event at `index`, counted from 0, of those that the call handed out.
+    /// The event at `index`, counted from 0, among those that the call handed out.
     pub(crate) fn event(&self, index: usize) -> Option<&EventOut>
         ensures { option_copied result ≡ slice_get (events_in self.now) index }
     {
@@ -49,7 +49,7 @@ impl CallResult {
         }
     }
 
-    /// The packet to send that the call made, if it made one. An ack isn't returned here.
+    /// The outgoing packet that the call made, if it made one. An ack isn't returned here.
     pub(crate) fn packet(&self) -> Option<&Bytes>
         ensures { option_copied result ≡ packet_in self.now }
     {
@@ -84,8 +84,8 @@ impl CallResult {
         }
     }
 
-    /// The query at `index`, counted from 0, of those that the call closed, in the order in which they were fired, with
-    /// its time.
+    /// One of the queries that the call closed, with its time. `index` counts from 0, in the order in which the queries
+    /// were fired.
     pub(crate) fn closed(&self, index: usize) -> Option<&(u64, OpenQuery)>
         ensures { option_copied result ≡ slice_get (closed_in self.now) index }
     {
@@ -95,7 +95,7 @@ impl CallResult {
         }
     }
 
-    /// The query that was handed out last, as long as it isn't among those that wait for an answer.
+    /// The query that was handed out last, as long as it isn't yet among the queries that wait for an answer.
     pub(crate) fn unsettled(&self) -> Option<&PendingQuery>
         ensures { option_copied result ≡ unsettled_in self.now }
     {
@@ -105,7 +105,7 @@ impl CallResult {
         }
     }
 
-    /// Takes out the query that `unsettled` borrows.
+    /// Moves out the query that `unsettled` borrows.
     pub(crate) fn into_unsettled(self) -> Option<PendingQuery>
         ensures { result ≡ unsettled_in self }
     {

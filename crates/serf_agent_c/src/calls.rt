@@ -14,7 +14,7 @@ use crate::session::Session;
 use serf_agent::{FireError, Fired, Outcome, ReceiveError};
 use std::alloc::Global;
 
-/// The code that C gets for the agent's `answer` to firing an event.
+/// The code that C gets for `answer`, the agent's result of firing an event.
 pub(crate) fn fired_code(answer: &Result<Fired, FireError>) -> Code
     ensures code { result ≡ answer_code fire_code answer.now }
     ensures memory { answer.now ≡ Err FireError.OutOfMemory → result ≡ Code.OutOfMemory }
@@ -25,7 +25,7 @@ pub(crate) fn fired_code(answer: &Result<Fired, FireError>) -> Code
     }
 }
 
-/// The code that C gets for the agent's `answer` to a packet.
+/// The code that C gets for `answer`, the agent's result of receiving a packet.
 pub(crate) fn received_code(answer: &Result<Outcome, ReceiveError>) -> Code
     ensures code { result ≡ answer_code receive_code answer.now }
     ensures memory { answer.now ≡ Err ReceiveError.OutOfMemory → result ≡ Code.OutOfMemory }
@@ -74,8 +74,8 @@ impl Session {
         code
     }
 
-    /// Handles a packet that arrived at the moment `now`, in nanoseconds, and keeps the result. `tags_pass` says
-    /// whether this node's tags pass the query's tag filters.
+    /// Handles a packet that arrived at the moment `now`, in nanoseconds, and keeps the result. `tags_pass` is true if
+    /// this node's tags pass the query's tag filters.
     pub(crate) fn receive(
         &mut self,
         alloc: Global,

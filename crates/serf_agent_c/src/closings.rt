@@ -15,7 +15,7 @@ use crate::session::Session;
 use serf_agent::{OpenQuery, Response};
 use serf_wire::Bytes;
 
-/// What C reads of `closed`, a query that was closed and its time, apart from its answers.
+/// Makes the struct that C reads for `closed`, a closed query and its time. It doesn't contain the query's answers.
 fn head_of_closed(closed: &(u64, OpenQuery)) -> ClosedHead
     ensures { result ≡ closed_head closed.now }
 {
@@ -29,7 +29,7 @@ fn head_of_closed(closed: &(u64, OpenQuery)) -> ClosedHead
     }
 }
 
-/// What C reads of `response`, apart from its texts.
+/// Makes the struct that C reads for `response`. It doesn't contain the response's texts.
 fn head_of_response(response: &Response) -> ResponseHead
     ensures { result ≡ response_head response.now }
 {
@@ -40,8 +40,8 @@ fn head_of_response(response: &Response) -> ResponseHead
 }
 
 impl CallResult {
-    /// The name of the node that sent ack number `number` of the closed query at `index`. Both count from 0, acks by
-    /// arrival.
+    /// The name of the node that sent ack number `number` of the closed query at `index`. Both numbers count from 0,
+    /// and the acks are in the order of their arrival.
     fn closed_ack(&self, index: usize, number: usize) -> Option<&Bytes>
         ensures { option_copied result ≡ ack_of number (slice_get (closed_in self.now) index) }
     {
@@ -49,7 +49,8 @@ impl CallResult {
         query.acks.as_slice().get(number)
     }
 
-    /// Response number `number` to the closed query at `index`. Both count from 0, responses by arrival.
+    /// Response number `number` to the closed query at `index`. Both numbers count from 0, and the responses are in the
+    /// order of their arrival.
     fn closed_response(&self, index: usize, number: usize) -> Option<&Response>
         ensures { option_copied result ≡ response_of number (slice_get (closed_in self.now) index) }
     {
@@ -129,8 +130,8 @@ impl Session {
         Code::Done
     }
 
-    /// Sets `should` to whether the host should compact: its file has more than `limit` bytes, and a compaction would
-    /// remove at least half of them.
+    /// Sets `should` to true if the host should compact. This is so if the host's file has more than `limit` bytes, and
+    /// a compaction would remove at least half of them.
     pub(crate) fn read_should_compact(&self, limit: u64, should: &mut bool) -> Code
         ensures waits { is_ready self.now ≡ false → result ≡ Code.Pending }
         ensures tells { is_ready self.now ≡ true

@@ -1,4 +1,4 @@
-//! What an export returns: the codes that C reads, and the code for each of the agent's errors.
+//! The codes that the exports return to C, and the code for each of the agent's errors.
 
 ghost use Rattle.std.specs.Prelude.{◌≡◌};
 ghost use Rattle.serf_agent_c.specs.Codes.{fire_code, merge_code, append_line_code, number_of, open_code, query_code, receive_code, respond_code, state_code};
@@ -8,7 +8,7 @@ use serf_agent::{
 };
 use serf_snapshot::AppendLineError;
 
-/// What an export returns, as in `enum serf_agent_code` of `include/serf_agent.h`.
+/// The code that an export returns, as in `enum serf_agent_code` of `include/serf_agent.h`.
 #[derive(Clone, Copy)]
 pub enum Code {
     /// The call was done.
@@ -19,7 +19,8 @@ pub enum Code {
     InUse,
     /// Bytes are pending for the host's file, and the host has to write them first.
     Pending,
-    /// There is nothing of the requested kind: the last call has no such result, or the packet is of another kind.
+    /// There is nothing of the requested kind: the last call has no result of this kind, or the packet is of another
+    /// kind.
     Nothing,
     /// There was no memory for the call.
     OutOfMemory,
@@ -35,7 +36,7 @@ pub enum Code {
     Exhausted,
     /// The packet is not a message.
     NoMessage,
-    /// The query has answers from as many nodes as the agent counts.
+    /// The answer is from a new node, but the limit of nodes whose answers are counted for the query is reached.
     RespondersFull,
     /// The message to merge is not a push/pull.
     NotPushPull,

@@ -1,4 +1,4 @@
-//! The error by which a packet is not a message, for C.
+//! Reads, for C, the first error of a packet that is not a message.
 
 ghost use Rattle.std.specs.Prelude.{◌≡◌};
 ghost use Rattle.serf_wire.specs.Decoded.{decoded};
@@ -58,7 +58,7 @@ fn error_byte(error: WireError) -> u8
     }
 }
 
-/// What C reads of `error`.
+/// Makes the struct that C reads for `error`.
 pub(crate) fn head_of_error(error: WireError) -> ErrorHead
     ensures { result ≡ error_head error }
 {

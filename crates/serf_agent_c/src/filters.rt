@@ -1,4 +1,4 @@
-//! What a host reads of a query's filters, before it decides whether its tags pass them.
+//! Lets a host read a query's filters, before the host decides whether its tags pass them.
 
 ghost use Rattle.std.specs.Prelude.{◌≡◌, ◌≢◌, ◌++◌, ◌∷◌, [], length, map, IfOk, OnOk};
 ghost use Rattle.std.specs.List.{flat_map};
@@ -16,7 +16,7 @@ use crate::state_members::write_texts;
 use serf_wire::{Message, Texts, decode};
 use std::alloc::{AllocError, Global};
 
-/// How many filters a query has, and their total length in bytes.
+/// The number of a query's filters, and their total length in bytes.
 #[repr(C)]
 #[derive(Clone, Copy)]
 pub struct FiltersHead {
@@ -42,7 +42,7 @@ fn filters_of<'a>(message: &Message<'a>) -> Option<BorrowedFilters<'a>>
     }
 }
 
-/// The filters of the query in `packet`, if it is one.
+/// The filters of the query in `packet`, if there is one.
 fn borrowed_filters(packet: &[u8]) -> Option<BorrowedFilters<'_>>
     ensures { option_map filters_borrowed result ≡ filters_in (decoded packet.now) }
 {
@@ -89,7 +89,7 @@ fn bytes_of(alloc: Global, borrowed: &BorrowedFilters) -> Result<Vec<u8>, AllocE
     Ok(bytes)
 }
 
-/// Fills `all`, `lens` and `filters` with the filters of `packet`, if it is a query (see `serf_agent_query_filters`).
+/// If `packet` is a query, fills `all`, `lens` and `filters` with its filters (see `serf_agent_query_filters`).
 fn read_filters(
     alloc: Global,
     packet: &[u8],
@@ -122,9 +122,9 @@ fn read_filters(
     Code::Done
 }
 
-/// Fills `all` with the number of filters of the query in `packet` and their total length, `lens` with as many of their
-/// lengths in bytes as fit, and `filters` with as much of their bytes, one filter after another, as fits. If the packet
-/// is not a query, the code is `NOTHING`.
+/// Reads the filters of the query in `packet`. Fills `all` with the number of filters and their total length in bytes,
+/// `lens` with the lengths of as many filters as fit, and `filters` with as much of their bytes as fits, one filter
+/// after another. If the packet is not a query, the code is `NOTHING`.
 #[unsafe(no_mangle)]
 pub extern "C" fn serf_agent_query_filters(
     alloc: Global,

@@ -1,5 +1,6 @@
-//! The getters: what C reads through a handle, without changing it. They fill memory of the caller, each text with as
-//! many of its first bytes as fit. In the clauses, `s` is the session, and `code` is what C gets.
+//! The getters, with which C reads the session of a handle without changing it. They fill the caller's memory, and copy
+//! as many of the first bytes of each text as fit. In the clauses, `s` is the session, and `code` is the code that C
+//! gets.
 
 ghost use Rattle.std.specs.Prelude.{◌≢◌, ◌-◌, ◌^◌, min, true, ◌≡◌, ◌+◌, if◌then◌else◌, Some, false, length, slice_get};
 ghost use Rattle.std.specs.Option.{is_some};
@@ -79,8 +80,8 @@ pub extern "C" fn serf_agent_event(
     code.number()
 }
 
-/// Fills `answer`, `from` and `payload` with the contents of `packet`, an ack or a response. If it is neither, the code
-/// is `NOTHING`.
+/// If `packet` is an ack or a response, fills `answer`, `from` and `payload` with its contents. If it is neither, the
+/// code is `NOTHING`.
 #[unsafe(no_mangle)]
 pub extern "C" fn serf_agent_answer(
     packet: &[u8],
@@ -97,9 +98,9 @@ pub extern "C" fn serf_agent_answer(
     read_answer(packet, answer, from, payload).number()
 }
 
-/// Fills `error` with the reason why `packet` is not a message: its first error, for which `serf_agent_receive` and
-/// `serf_agent_merge` return `NO_MESSAGE`. If the packet is a message, the code is `NOTHING`, and `error` stays as it
-/// was.
+/// Fills `error` with the first error of `packet`, if the packet is not a message and `serf_agent_receive` and
+/// `serf_agent_merge` therefore return `NO_MESSAGE`. If the packet is a message, the code is `NOTHING`, and `error`
+/// stays as it was.
 #[unsafe(no_mangle)]
 pub extern "C" fn serf_agent_packet_error(packet: &[u8], error: &mut ErrorHead) -> u32
     ensures { (code : Code) × (result ≡ number_of code)
@@ -108,7 +109,7 @@ pub extern "C" fn serf_agent_packet_error(packet: &[u8], error: &mut ErrorHead) 
     read_error(packet, error).number()
 }
 
-/// Fills `len` and `to` with the packet to send that the last call made: its length, and as much of it as fits.
+/// Sets `len` to the length of the outgoing packet that the last call made, and fills `to` with as much of it as fits.
 #[unsafe(no_mangle)]
 pub extern "C" fn serf_agent_packet(
     alloc: Global,
@@ -129,8 +130,8 @@ pub extern "C" fn serf_agent_packet(
     code.number()
 }
 
-/// Fills `len` and `to` with the ack to send for the query that the last call handed out: its length, and as much of it
-/// as fits.
+/// Sets `len` to the length of the ack to send for the query that the last call handed out, and fills `to` with as much
+/// of the ack as fits.
 #[unsafe(no_mangle)]
 pub extern "C" fn serf_agent_ack(
     alloc: Global,
@@ -151,8 +152,7 @@ pub extern "C" fn serf_agent_ack(
     code.number()
 }
 
-/// Fills `handed` and the texts with the query that was handed out as `number`. `source` is the name of the node that
-/// fired it.
+/// Fills `handed` and the texts with query number `number`. `source` gets the name of the node that fired the query.
 #[unsafe(no_mangle)]
 pub extern "C" fn serf_agent_pending_query(
     alloc: Global,
@@ -220,7 +220,7 @@ pub extern "C" fn serf_agent_next_deadline(
     code.number()
 }
 
-/// Sets `total` to the number of this agent's own queries that are open, which means that they still accept answers.
+/// Sets `total` to the number of this agent's own open queries. An open query still accepts answers.
 #[unsafe(no_mangle)]
 pub extern "C" fn serf_agent_open_queries(
     alloc: Global,
@@ -240,8 +240,8 @@ pub extern "C" fn serf_agent_open_queries(
     code.number()
 }
 
-/// Fills `closed` with the query at `index`, counted from 0, of those that the last call closed, in the order in which
-/// they were fired.
+/// Fills `closed` with one of the queries that the last call closed. `index` counts from 0, in the order in which the
+/// queries were fired.
 #[unsafe(no_mangle)]
 pub extern "C" fn serf_agent_closed(
     alloc: Global,
@@ -264,7 +264,7 @@ pub extern "C" fn serf_agent_closed(
 }
 
 /// Fills `len` and `to` with the name of the node that sent ack number `number` of the closed query at `index`. Both
-/// count from 0, acks in the order of their arrival.
+/// numbers count from 0, and the acks are in the order of their arrival.
 #[unsafe(no_mangle)]
 pub extern "C" fn serf_agent_closed_ack(
     alloc: Global,
@@ -288,8 +288,8 @@ pub extern "C" fn serf_agent_closed_ack(
     code.number()
 }
 
-/// Fills `response` and the texts with response number `number` to the closed query at `index`. Both count from 0,
-/// responses in the order of their arrival.
+/// Fills `response` and the texts with response number `number` to the closed query at `index`. Both numbers count from
+/// 0, and the responses are in the order of their arrival.
 #[unsafe(no_mangle)]
 pub extern "C" fn serf_agent_closed_response(
     alloc: Global,
@@ -317,8 +317,8 @@ pub extern "C" fn serf_agent_closed_response(
     code.number()
 }
 
-/// Sets `should` to whether the host should compact: its file has more than `limit` bytes, and a compaction would
-/// remove at least half of them.
+/// Sets `should` to true if the host should compact. This is so if the host's file has more than `limit` bytes, and a
+/// compaction would remove at least half of them.
 #[unsafe(no_mangle)]
 pub extern "C" fn serf_agent_should_compact(
     alloc: Global,

@@ -1,4 +1,4 @@
-//! The lines about handlers: what became of the events that the host was handed.
+//! Makes the lines about handlers, in which a host records what became of the events that were handed to it.
 
 ghost use Rattle.std.specs.Prelude.{◌≡◌, IfOk, length};
 ghost use Rattle.serf_snapshot.specs.Handlers.{begun_line, done_line, done_up_to_line, open_line};
@@ -12,20 +12,20 @@ use serf_lamport::Time;
 use serf_snapshot::{write_begun_line, write_done_line, write_done_up_to_line, write_open_line};
 use std::alloc::{AllocError, Global};
 
-/// What a line says of an event.
+/// The state of an event that a line records.
 #[derive(Clone, Copy)]
 pub enum EventState {
-    /// It was handed out, and it isn't done.
+    /// The event was handed out, and it isn't done.
     Open,
-    /// Its handler has begun.
+    /// The event's handler has begun.
     Begun,
-    /// It is done.
+    /// The event is done.
     Done,
-    /// All events of the lines above it are done, up to the time. The line has no name and no payload.
+    /// All events of the lines above this one are done, up to its time. The line has no name and no payload.
     DoneUpTo,
 }
 
-/// The line that says `state` of the event of `time`, `name` and `payload`.
+/// Makes the line that records `state` for the event with this `time`, `name` and `payload`.
 fn line_of(
     alloc: Global,
     state: EventState,
@@ -54,7 +54,8 @@ fn fill(line: &[u8], len: &mut usize, to: &mut [u8])
     copy_into(to, line);
 }
 
-/// Fills `len` and `to` with the line that says `state` of the event of `time`, `name` and `payload`.
+/// Makes the line that records `state` for the event with this `time`, `name` and `payload`. Sets `len` to the line's
+/// length in bytes, and fills `to` with as much of it as fits.
 fn write(
     alloc: Global,
     state: EventState,
@@ -77,8 +78,8 @@ fn write(
     Code::Done
 }
 
-/// Makes the line that opens the event of `time`, `name` and `payload` in a text that replaces the file's: sets `len` to
-/// its length in bytes, and fills `to` with as much of it as fits.
+/// Makes the line that lists the event with this `time`, `name` and `payload` as open, for a text that replaces the
+/// file's text. Sets `len` to the line's length in bytes, and fills `to` with as much of it as fits.
 #[unsafe(no_mangle)]
 pub extern "C" fn serf_agent_open_line(
     alloc: Global,
@@ -95,8 +96,8 @@ pub extern "C" fn serf_agent_open_line(
     write(alloc, EventState::Open, time, name, payload, len, to).number()
 }
 
-/// Makes the line that says that the handler of the event of `time`, `name` and `payload` has begun: sets `len` to its
-/// length in bytes, and fills `to` with as much of it as fits.
+/// Makes the line that records that the handler of the event with this `time`, `name` and `payload` has begun. Sets
+/// `len` to the line's length in bytes, and fills `to` with as much of it as fits.
 #[unsafe(no_mangle)]
 pub extern "C" fn serf_agent_begun_line(
     alloc: Global,
@@ -113,8 +114,8 @@ pub extern "C" fn serf_agent_begun_line(
     write(alloc, EventState::Begun, time, name, payload, len, to).number()
 }
 
-/// Makes the line that says that the event of `time`, `name` and `payload` is done: sets `len` to its length in bytes,
-/// and fills `to` with as much of it as fits.
+/// Makes the line that records that the event with this `time`, `name` and `payload` is done. Sets `len` to the line's
+/// length in bytes, and fills `to` with as much of it as fits.
 #[unsafe(no_mangle)]
 pub extern "C" fn serf_agent_done_line(
     alloc: Global,
@@ -131,8 +132,8 @@ pub extern "C" fn serf_agent_done_line(
     write(alloc, EventState::Done, time, name, payload, len, to).number()
 }
 
-/// Makes the line that says that all events of the lines above it are done, up to `time`: sets `len` to its length in
-/// bytes, and fills `to` with as much of it as fits.
+/// Makes the line that records that all events of the lines above it are done, up to `time`. Sets `len` to the line's
+/// length in bytes, and fills `to` with as much of it as fits.
 #[unsafe(no_mangle)]
 pub extern "C" fn serf_agent_done_up_to_line(
     alloc: Global,

@@ -1,9 +1,10 @@
 //! The structs that C reads and sets, with the same layout as in `include/serf_agent.h`. A field `.._len` is the length
 //! in bytes of a text that a getter returns next to the struct.
 
-/// An agent's settings, apart from its name: the number of slots of the two buffers, the maximum length of a fired
-/// event in bytes, how many names are counted among a query's acks and among its responses, how many events, or
-/// queries, are accepted with the same time, and whether a join raises the minimum time of events.
+/// An agent's settings, apart from its name. They include the number of slots of each buffer, and the maximum length of
+/// a fired event in bytes. `responders` is how many names are counted among a query's acks, and among its responses.
+/// `per_time` is how many events, or queries, are accepted with the same time. `ignore_old` is true if a join raises
+/// the minimum time of events.
 #[repr(C)]
 #[derive(Clone, Copy)]
 pub struct Settings {
@@ -17,13 +18,14 @@ pub struct Settings {
     pub responders: u64,
     pub per_time: u64,
     pub ignore_old: bool,
-    /// Whether a restart restores the events and the queries of the life before.
+    /// Whether a restart restores the events and the queries of the previous life.
     pub keep_events: bool,
 }
 
-/// The result of the last call: its kind, and the reason why a packet was ignored, as in the header's enums; the number
-/// of the query that is handed out, how many events are handed out, and the type of a foreign message, each 0 if there
-/// is none; and whether the received packet has to be sent on unchanged.
+/// The result of the last call. `kind` and `reason` are numbers of the header's enums; `reason` is why a packet was
+/// ignored. `handed` is the number of the query that is handed out, `events` is how many events are handed out, and
+/// `foreign` is the type of a foreign message. Each of these is 0 if there is none. `rebroadcast` is true if the
+/// received packet has to be sent on unchanged.
 #[repr(C)]
 #[derive(Clone, Copy)]
 pub struct ResultHead {
@@ -35,7 +37,7 @@ pub struct ResultHead {
     pub rebroadcast: bool,
 }
 
-/// How many bytes are pending for the host's file, and whether they replace its text.
+/// The number of bytes that are pending for the host's file, and whether they replace the file's text.
 #[repr(C)]
 #[derive(Clone, Copy)]
 pub struct BytesHead {
@@ -53,9 +55,9 @@ pub struct EventHead {
     pub coalesce: bool,
 }
 
-/// How a query is fired: for how many nanoseconds answers are accepted, at which port, how many relays also send them,
-/// whether acks are requested, whether nodes must not send the query on, and whether this node's tags pass its tag
-/// filters.
+/// The parameters of a query that is fired. Answers are accepted for `timeout` nanoseconds, at the port `port`, and
+/// `relay_factor` nodes relay them. The other fields state whether the query requests acks, whether nodes must not send
+/// it on, and whether this node's tags pass its tag filters.
 #[repr(C)]
 #[derive(Clone, Copy)]
 pub struct Params {
@@ -68,8 +70,8 @@ pub struct Params {
 }
 
 /// A query that was handed out and not yet answered: its time, the last moment at which it can be answered, its ID, and
-/// the port and the number of relays for its answer. Its texts are its name, its payload, and the name and the address
-/// of the node that fired it.
+/// the port and the number of relays for its response. Its texts are its name, its payload, and the name and the
+/// address of the node that fired it.
 #[repr(C)]
 #[derive(Clone, Copy)]
 pub struct PendingQueryHead {
@@ -107,8 +109,8 @@ pub struct AnswerHead {
     pub is_ack: bool,
 }
 
-/// Why a packet is not a message: the offset of its first error, in bytes from the beginning of the packet, the error's
-/// kind as in the header's enum, and the byte that the error names, otherwise 0.
+/// The first error of a packet that is not a message: its offset in bytes from the beginning of the packet, its kind as
+/// in the header's enum, and the byte that it names, or 0 if it names none.
 #[repr(C)]
 #[derive(Clone, Copy)]
 pub struct ErrorHead {
@@ -117,8 +119,8 @@ pub struct ErrorHead {
     pub byte: u8,
 }
 
-/// One of the agent's own queries, which the last call closed: its time, the last moment at which answers were counted,
-/// how many nodes acked it and how many responded, and its ID.
+/// A query of this agent that the last call closed: its time, the last moment at which answers were counted, how many
+/// nodes acked it and how many responded, and its ID.
 #[repr(C)]
 #[derive(Clone, Copy)]
 pub struct ClosedHead {

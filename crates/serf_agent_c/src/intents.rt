@@ -1,4 +1,4 @@
-//! Join and leave intents, for C: reading their packets, and making them.
+//! Reads and makes the packets of join and leave intents, for C.
 
 ghost use Rattle.std.specs.Prelude.{◌≡◌, ◌≢◌, ◌<◌, true, false, length};
 ghost use Rattle.serf_lamport.specs.Clock.{max_clock};
@@ -16,8 +16,8 @@ use serf_lamport::Time;
 use serf_wire::{EncodeError, Intent, Join, Leave, encode_intent, read_intent};
 use std::alloc::Global;
 
-/// What C reads of an intent, apart from the node's name: its time by the member clock, the length of the name in
-/// bytes, whether the node leaves (otherwise it joins), and whether members have to forget the node at once.
+/// An intent as C reads it, without the node's name: its time by the member clock, the length of the name in bytes,
+/// whether the node leaves (otherwise it joins), and whether members have to forget the node at once.
 #[repr(C)]
 #[derive(Clone, Copy)]
 pub struct IntentHead {
@@ -27,7 +27,7 @@ pub struct IntentHead {
     pub prune: bool,
 }
 
-/// What C reads of `intent`, apart from the node's name.
+/// Makes the struct that C reads for `intent`. It doesn't contain the node's name.
 fn head_of_intent(intent: &Intent) -> IntentHead
     ensures { result ≡ intent_head (intent_of intent.now) }
 {
@@ -47,7 +47,7 @@ fn head_of_intent(intent: &Intent) -> IntentHead
     }
 }
 
-/// The name of the node that joins or leaves by `intent`.
+/// The name of the node whose join or leave `intent` announces.
 fn node_of<'a>(intent: &Intent<'a>) -> &'a [u8]
     ensures { result.now ≡ intent_node (intent_of intent.now) }
 {
@@ -57,8 +57,7 @@ fn node_of<'a>(intent: &Intent<'a>) -> &'a [u8]
     }
 }
 
-/// Fills `intent` with the contents of `packet`, if it is an intent, and `node` with as much of the node's name as
-/// fits.
+/// If `packet` is an intent, fills `intent` with its contents, and `node` with as much of the node's name as fits.
 fn read(packet: &[u8], intent: &mut IntentHead, node: &mut [u8]) -> Code
     ensures reads { ReadsIntent (intent_read packet.now) (λ i. (intent.new ≡ intent_head i)
         × (node.new ≡ copied (intent_node i) node.old)) result }
@@ -75,7 +74,7 @@ fn read(packet: &[u8], intent: &mut IntentHead, node: &mut [u8]) -> Code
     }
 }
 
-/// Fills `error` with the first error of `packet`, if it is a faulty intent or not a message. Otherwise, the code is
+/// If `packet` is a faulty intent or not a message, fills `error` with its first error. Otherwise, the code is
 /// `Nothing`.
 fn read_error(packet: &[u8], error: &mut ErrorHead) -> Code
     ensures { ReadsIntentError (intent_read packet.now) error.old error.new result }
@@ -99,7 +98,7 @@ fn code_of(error: EncodeError) -> Code
     }
 }
 
-/// Makes the packet of `intent`: sets `len` to its length in bytes, and fills `to` with as much of it as fits.
+/// Makes the packet of `intent`. Sets `len` to the packet's length in bytes, and fills `to` with as much of it as fits.
 fn write(alloc: Global, intent: &Intent, len: &mut usize, to: &mut [u8]) -> Code
     ensures too_long { is_long (intent_node (intent_of intent.now)) ≡ true
         → result ≡ Code.TooLong }
@@ -120,8 +119,8 @@ fn write(alloc: Global, intent: &Intent, len: &mut usize, to: &mut [u8]) -> Code
     }
 }
 
-/// Makes the packet of an intent of `node` at `time`. It is a leave intent if `prune` is `Some`, which says whether
-/// members have to forget the node at once, and otherwise a join intent.
+/// Makes the packet of an intent of `node` at `time`. If `prune` is `None`, the intent is a join intent. Otherwise it
+/// is a leave intent, and `prune` contains whether members have to forget the node at once.
 fn write_said(
     alloc: Global,
     time: u64,
@@ -141,8 +140,8 @@ fn write_said(
     }
 }
 
-/// Fills `intent` with the contents of `packet`, an intent, and `node` with as much of the node's name as fits. The
-/// code is `NOTHING` if the packet is another message, and `NO_MESSAGE` if it is not a message or is a faulty intent.
+/// If `packet` is an intent, fills `intent` with its contents, and `node` with as much of the node's name as fits. The
+/// code is `NOTHING` if the packet is another message, and `NO_MESSAGE` if it is a faulty intent or not a message.
 #[unsafe(no_mangle)]
 pub extern "C" fn serf_agent_intent(packet: &[u8], intent: &mut IntentHead, node: &mut [u8]) -> u32
     ensures { (code : Code) × (result ≡ number_of code)
@@ -153,8 +152,8 @@ pub extern "C" fn serf_agent_intent(packet: &[u8], intent: &mut IntentHead, node
     read(packet, intent, node).number()
 }
 
-/// Fills `error` with the reason why `packet` is not an intent: its first error, for which `serf_agent_intent` returns
-/// `NO_MESSAGE`. In all other cases, the code is `NOTHING`, and `error` stays as it was.
+/// If `serf_agent_intent` returns `NO_MESSAGE` for `packet`, fills `error` with the packet's first error. In all other
+/// cases, the code is `NOTHING`, and `error` stays as it was.
 #[unsafe(no_mangle)]
 pub extern "C" fn serf_agent_intent_error(packet: &[u8], error: &mut ErrorHead) -> u32
     ensures { (code : Code) × (result ≡ number_of code)
@@ -163,8 +162,8 @@ pub extern "C" fn serf_agent_intent_error(packet: &[u8], error: &mut ErrorHead) 
     read_error(packet, error).number()
 }
 
-/// Makes the packet by which `node` joins at `time`: sets `len` to its length in bytes, and fills `to` with as much of
-/// it as fits.
+/// Makes the packet of a join intent, which announces that `node` joins at `time`. Sets `len` to the packet's length in
+/// bytes, and fills `to` with as much of it as fits.
 #[unsafe(no_mangle)]
 pub extern "C" fn serf_agent_join_packet(
     alloc: Global,
@@ -179,8 +178,8 @@ pub extern "C" fn serf_agent_join_packet(
     write_said(alloc, time, node, None, len, to).number()
 }
 
-/// Makes the packet by which `node` leaves at `time`: sets `len` to its length in bytes, and fills `to` with as much of
-/// it as fits. `prune` says whether members have to forget the node at once.
+/// Makes the packet of a leave intent, which announces that `node` leaves at `time`. Sets `len` to the packet's length
+/// in bytes, and fills `to` with as much of it as fits. `prune` is true if members have to forget the node at once.
 #[unsafe(no_mangle)]
 pub extern "C" fn serf_agent_leave_packet(
     alloc: Global,

@@ -1,44 +1,48 @@
-//! What a host in C can rely on, whatever it calls and whenever it is killed: laws about the exports, stated by their
-//! clauses.
+//! Laws about the exports on which a host in C can rely, whatever it calls and whenever it is killed.
 
 ghost use Rattle.serf_agent_c.specs.HostLaws.{CodesDiffer, GivesExactly, HostSteps};
-ghost use Rattle.serf_agent_c.specs.Hosts.{GivesLater, GivesNew, GivesOnce, GivesQueriesLater, GivesQueriesOnce, TakesNewQueries};
+ghost use Rattle.serf_agent_c.specs.Hosts.{GivesLater, GivesLaterInBursts, GivesNew, GivesOnce, GivesQueriesLater, GivesQueriesLaterInBursts, GivesQueriesOnce, TakesNewQueries};
 
 use serf_agent::{kept_life_promises, once_steps, unseen_promises};
 use serf_snapshot::{min_time_laws, other_lines_laws, read_laws, text_laws};
 use serf_wire::{decoded_ranges, decoded_texts};
 
-/// States what each export does to the ideal agent that a session follows, and to its host's file. It does nothing.
+/// States what each export does to the ideal agent that a session follows, and to its host's file. This function does
+/// nothing.
 ///
-/// `codes` states that the clauses of one call speak about the same code.
+/// `codes` states that all clauses of one call are about the same code.
 pub fn host_steps()
     ensures steps { HostSteps }
     ensures codes { CodesDiffer }
 {}
 
-/// States what is promised to a host in C over one file, in all its lives. It does nothing.
+/// States the promises to a host in C over one file, in all its lives. This function does nothing.
 ///
-/// A host makes calls, confirms by `serf_agent_flushed` what its file has, and may be killed at any point. Each session
-/// opens on a text that begins with everything that the host confirmed, or with the text of a compaction that was under
-/// way; any bytes may follow. Between these bytes, the host may have written other whole lines, which say nothing of
-/// clocks, minimum times, events and queries. Then the getters return no event and no query twice in all lives.
-/// Whatever is fired has a later time than everything of its kind that was returned before. And there is always an
-/// agent that forgets nothing and that the session follows, so each call returns what that agent answers.
+/// A host makes calls, confirms with `serf_agent_flushed` which bytes its file has, and may be killed at any point.
+/// Each session opens on a text that begins with everything that the host confirmed, or with the text of a compaction
+/// that was under way; any bytes may follow. Between these bytes, the host may have written other whole lines, which
+/// contain no clocks, minimum times, events or queries. Then the getters return no event and no query twice in all
+/// lives. Each event or query that is fired, in a burst or outside one, has a later time than everything of its kind
+/// that was returned before. The session always follows an agent that forgets nothing, so each call returns the same
+/// result as this agent.
 ///
-/// If the settings stay the same and keep events, nothing new that arrives is missed, be it in a packet, in a burst or
-/// in a state that is merged: an event is returned (`kept`), and a query is accepted (`queries_kept`).
+/// If the settings stay the same and keep events, nothing new is missed that arrives in a packet, in a burst or in a
+/// merged state: the getters return each new event (`kept`), and the agent accepts each new query (`queries_kept`).
 pub fn host_promises()
     ensures once { GivesOnce }
     ensures queries_once { GivesQueriesOnce }
     ensures later { GivesLater }
     ensures queries_later { GivesQueriesLater }
+    ensures later_in_bursts { GivesLaterInBursts }
+    ensures queries_later_in_bursts { GivesQueriesLaterInBursts }
     ensures exactly { GivesExactly }
     ensures kept { GivesNew }
     ensures queries_kept { TakesNewQueries }
 {
-    // what the clauses rest on: the steps of a life, what lives with kept events promise, what a life over any sink
-    // does, how the clocks and the minimums of a text grow, that other lines change neither these nor what is read,
-    // that what a text says can be written again, and the texts and the ranges in the results of `decode`
+    // The clauses follow from laws about the steps of a life, the promises of lives that keep events, lives over any
+    // sink, and how the clocks and the minimum times of a text grow. Other laws state that other lines change neither
+    // these nor what is read, and that everything that is read from a text can be written again. The last laws are
+    // about the texts and the ranges in the results of `decode`.
     once_steps();
     kept_life_promises();
     unseen_promises();

@@ -1,15 +1,16 @@
 //! One agent of a Serf cluster for C: `include/serf_agent.h` declares these functions.
 //!
-//! A [`Handle`] is in the host's memory and has a session: an agent, the result of its last call, and which bytes are
-//! pending for the host's file. The library opens no file. The agent's sink is in memory, and the host appends to its
-//! file what [`serf_agent_pending`] returns, flushes it, and calls [`serf_agent_flushed`]. Until then, no call is made
-//! and nothing that was handed out can be read, so an event is handed out only after its line is durable.
+//! A [`Handle`] is in the host's memory and has a session: an agent, the result of its last call, and a record of the
+//! bytes that are pending for the host's file. The library opens no file: the agent's sink is in memory. The host
+//! appends the bytes that [`serf_agent_pending`] returns to its file, flushes the file, and calls
+//! [`serf_agent_flushed`]. Until then, calls of the agent outside a burst are refused, and nothing that was handed out
+//! can be read. So an event is handed out only after its line is durable.
 //!
-//! Each export that calls the agent ensures that the agent takes the step that the ideal agent takes (see
-//! `serf_agent`), and each getter that C reads the result. No export requires anything: an empty handle, one in use and
-//! a wrong number lead to a [`Code`]. In the clauses, `s` is the session before a call, `t` the session after it, and
-//! `code` is what C gets. `waits` is about pending bytes, `memory` about an allocation failure, and `gives` about what
-//! C reads afterwards.
+//! If an export calls the agent, its contract states that the agent takes the same step as the ideal agent (see
+//! `serf_agent`). The contract of a getter states that C reads the result. No export has a precondition: an empty
+//! handle, a handle in use or a wrong number leads to a [`Code`]. In the clauses, `s` is the session before a call, `t`
+//! is the session after it, and `code` is the code that C gets. Clauses named `waits` are about pending bytes, those
+//! named `memory` about an allocation failure, and those named `gives` about the result that C reads afterwards.
 #![tactic(auto)]
 
 ghost use Rattle.std.specs.Prelude.{true, ◌≡◌, ◌≢◌, ◌++◌, ◌∷◌, if◌then◌else◌, [], None, Some, IfSome, false, length};
@@ -148,8 +149,8 @@ pub extern "C" fn serf_agent_close(alloc: Global, handle: &mut Handle) -> u32
     }
 }
 
-/// Fills `bytes` with how many bytes are pending for the host's file and whether they replace its text, and `to` with
-/// as many of the first of them as fit.
+/// Fills `bytes` with the number of bytes that are pending for the host's file, and with whether they replace its text.
+/// Fills `to` with as many of these bytes as fit, from the first on.
 #[unsafe(no_mangle)]
 pub extern "C" fn serf_agent_pending(
     alloc: Global,
@@ -215,8 +216,9 @@ pub extern "C" fn serf_agent_fire(
     code.number()
 }
 
-/// Handles a packet that arrived at the moment `now`, in nanoseconds. If it is a query, `tags_pass` is whether this
-/// node's tags pass all its tag filters, which only the host can know. The getters read the outcome.
+/// Handles a packet that arrived at the moment `now`, in nanoseconds. If the packet is a query, set `tags_pass` to
+/// whether this node's tags pass all of the query's tag filters, which only the host can know. The getters read the
+/// outcome.
 #[unsafe(no_mangle)]
 pub extern "C" fn serf_agent_receive(
     alloc: Global,
@@ -242,7 +244,7 @@ pub extern "C" fn serf_agent_receive(
     code.number()
 }
 
-/// Merges another agent's whole state, the push/pull `packet`. `is_join` says whether it was exchanged for a join.
+/// Merges another agent's whole state, the push/pull `packet`. `is_join` is true if the state was exchanged for a join.
 #[unsafe(no_mangle)]
 pub extern "C" fn serf_agent_merge(
     alloc: Global,
@@ -266,8 +268,8 @@ pub extern "C" fn serf_agent_merge(
     code.number()
 }
 
-/// Makes the push/pull packet with the agent's whole state, and with the members that were added for it. They are then
-/// forgotten, unless memory ran out. The getters read the packet.
+/// Makes the push/pull packet with the agent's whole state, and with the members that were added for it. The members
+/// are then forgotten, unless memory ran out. The getters read the packet.
 #[unsafe(no_mangle)]
 pub extern "C" fn serf_agent_local_state(alloc: Global, handle: &mut Handle) -> u32
     ensures waits { Answers (λ s t code. Waits s t code) handle.old handle.new result }
@@ -305,7 +307,7 @@ pub extern "C" fn serf_agent_add_status(
     code.number()
 }
 
-/// Adds the member `name` to those that the next state names as left.
+/// Adds the member `name` to the members that the next state lists as left.
 #[unsafe(no_mangle)]
 pub extern "C" fn serf_agent_add_left(alloc: Global, handle: &mut Handle, name: &[u8]) -> u32
     ensures { Answers (λ s t code. Waits s t code × AddsLeft name.now s t code)
@@ -319,7 +321,7 @@ pub extern "C" fn serf_agent_add_left(alloc: Global, handle: &mut Handle, name: 
     code.number()
 }
 
-/// Adds `filter`, the bytes of a filter as Serf writes it, to the next query. This also works while bytes are pending
+/// Adds `filter`, the bytes of a filter in Serf's format, to the next query. This also works while bytes are pending
 /// for the host's file.
 #[unsafe(no_mangle)]
 pub extern "C" fn serf_agent_add_filter(alloc: Global, handle: &mut Handle, filter: &[u8]) -> u32
@@ -337,7 +339,7 @@ pub extern "C" fn serf_agent_add_filter(alloc: Global, handle: &mut Handle, filt
 }
 
 /// Fires the query `id` with this `name` and `payload` at the moment `now`, in nanoseconds. Its answers are sent to
-/// `addr`. It has the filters that were added for it, which are then forgotten, unless memory ran out.
+/// `addr`. The query gets the filters that were added for it. They are then forgotten, unless memory ran out.
 #[unsafe(no_mangle)]
 pub extern "C" fn serf_agent_query(
     alloc: Global,
@@ -367,8 +369,8 @@ pub extern "C" fn serf_agent_query(
     code.number()
 }
 
-/// Answers the query that was handed out as `number` with `payload`, at the moment `now` in nanoseconds. After a
-/// success, the query no longer waits.
+/// Answers query number `number` with `payload`, at the moment `now` in nanoseconds. After a success, the query no
+/// longer waits for an answer.
 #[unsafe(no_mangle)]
 pub extern "C" fn serf_agent_respond(
     alloc: Global,
@@ -392,7 +394,7 @@ pub extern "C" fn serf_agent_respond(
     code.number()
 }
 
-/// Forgets the query that was handed out as `number`: it isn't answered, and no longer uses memory.
+/// Forgets query number `number`. The query isn't answered, and no longer uses memory.
 #[unsafe(no_mangle)]
 pub extern "C" fn serf_agent_forget_query(alloc: Global, handle: &mut Handle, number: u64) -> u32
     ensures waits { Answers (λ s t code. Waits s t code) handle.old handle.new result }
@@ -410,9 +412,9 @@ pub extern "C" fn serf_agent_forget_query(alloc: Global, handle: &mut Handle, nu
     code.number()
 }
 
-/// Closes the agent's own queries whose deadline is before the moment `now`, in nanoseconds, sets `closed` to their
-/// number, and lets the getters read them with their answers. Also forgets the queries that were handed out and whose
-/// deadline is before `now`.
+/// Closes the agent's own queries whose deadline is before the moment `now`, in nanoseconds, and sets `closed` to their
+/// number. The getters can then read them with their answers. Also forgets the queries that wait for an answer and
+/// whose deadline is before `now`.
 #[unsafe(no_mangle)]
 pub extern "C" fn serf_agent_close_due(
     alloc: Global,
@@ -458,8 +460,8 @@ pub extern "C" fn serf_agent_save_member_clock(alloc: Global, handle: &mut Handl
     code.number()
 }
 
-/// Makes the text that replaces the host's file: a line for each clock, and, if the settings keep events, the lines of
-/// the events and queries in the buffers.
+/// Makes the text that is to replace the text of the host's file: a line for each clock, and, if the settings keep
+/// events, the lines of the events and queries in the buffers.
 #[unsafe(no_mangle)]
 pub extern "C" fn serf_agent_compact(alloc: Global, handle: &mut Handle) -> u32
     ensures waits { Answers (λ s t code. Waits s t code) handle.old handle.new result }

@@ -1,4 +1,4 @@
-//! What C looks up: the queries that were handed out, and the agent's own queries that still accept answers.
+//! Lets C look up the queries that were handed out, and the agent's own queries that still accept answers.
 
 ghost use Rattle.std.specs.Prelude.{◌≢◌, ◌≡◌, ◌-◌, ◌^◌, min, true, false, Some, length, option_copied};
 ghost use Rattle.serf_agent.specs.BorrowedQueries.{queries_left};
@@ -13,7 +13,7 @@ use crate::heads::PendingQueryHead;
 use crate::session::Session;
 use serf_agent::{BorrowedQueries, PendingQuery};
 
-/// What C reads of `query`, which was handed out, apart from its texts.
+/// Makes the struct that C reads for `query`, which was handed out. It doesn't contain the query's texts.
 fn head_of_query(query: &PendingQuery) -> PendingQueryHead
     ensures { result ≡ pending_query_head query.now }
 {
@@ -42,7 +42,7 @@ fn count(queries: BorrowedQueries<'_>) -> usize
 }
 
 impl Session {
-    /// The query that was handed out as `number`, if it still waits. The query of the last call has the next number.
+    /// Query number `number`, if it still waits. The query that the last call handed out has the next number.
     fn handed_at(&self, number: u64) -> Option<&PendingQuery>
         ensures { option_copied result ≡ waiting_at number (settled self.now).waiting }
     {
@@ -53,8 +53,8 @@ impl Session {
         }
     }
 
-    /// Fills `head` and the texts with the query that was handed out as `number`. The code is `NotPending` if no
-    /// waiting query has this number.
+    /// Fills `head` and the texts with query number `number`. The code is `NotPending` if no waiting query has this
+    /// number.
     pub(crate) fn read_pending_query(
         &self,
         number: u64,
@@ -106,7 +106,7 @@ impl Session {
         }
     }
 
-    /// Sets `total` to the number of the agent's own queries that are open, which means that they still accept answers.
+    /// Sets `total` to the number of the agent's own open queries. An open query still accepts answers.
     pub(crate) fn read_open_queries(&self, total: &mut usize) -> Code
         ensures reads { ReadsAs (is_ready self.now)
             (Some (min (length self.now.agent.concrete.fired_queries) (2 ^ 64 - 1)))

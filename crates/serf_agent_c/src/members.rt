@@ -20,7 +20,7 @@ pub struct Member {
     pub(crate) time: u64,
 }
 
-/// Puts `member` after the others, or changes nothing if there is no memory for it.
+/// Appends `member`, or changes nothing if there is no memory for it.
 fn add_member(members: &mut Vec<Member>, member: Member) -> Result<(), AllocError>
     ensures ok { OnOk result (members.new.items ≡ members.old.items ++ member ∷ []) }
     ensures err { OnErr result (members.new.items ≡ members.old.items) }
@@ -77,8 +77,8 @@ impl Session {
         }
     }
 
-    /// Adds the member `name` to those that the next state names as left. The code is `Pending` while bytes are pending
-    /// for the host's file.
+    /// Adds the member `name` to the members that the next state lists as left. The code is `Pending` while bytes are
+    /// pending for the host's file.
     pub(crate) fn add_left(&mut self, alloc: Global, name: &[u8]) -> Code
         ensures waits { Waits self.old self.new result }
         ensures adds { AddsLeft name.now self.old self.new result }
@@ -95,7 +95,7 @@ impl Session {
         }
     }
 
-    /// The push/pull packet with the agent's whole state, and with the members that the host added for it.
+    /// Makes the push/pull packet with the agent's whole state, and with the members that the host added for it.
     pub(crate) fn state(&self, alloc: Global) -> Result<Bytes, PushPullError>
         ensures { result ≢ Err PushPullError.OutOfMemory → result
             ≡ send_state self.now.agent.concrete (map named self.now.status.items) self.now.left }
@@ -110,8 +110,8 @@ impl Session {
             .local_state(alloc, status.as_slice(), left.as_slice())
     }
 
-    /// Forgets the members that were added, because a state was tried with them. If `code` says that memory ran out,
-    /// they stay.
+    /// Forgets the members that the host added, after a call has tried to make a state with them. If memory ran out
+    /// (`code`), they stay.
     pub(crate) fn forget_members(&mut self, alloc: Global, code: Code)
         ensures kept { code ≡ Code.OutOfMemory → KeepsMembers self.old self.new }
         ensures forgotten { code ≢ Code.OutOfMemory

@@ -1,5 +1,5 @@
-//! A session's whole state, to send and to merge, and the lines that a host requests: a member clock's and a
-//! compaction's.
+//! Makes the packet of a session's whole state, merges another agent's state, and writes the lines that a host
+//! requests: the member clock's line, and the lines of a compaction.
 
 ghost use Rattle.std.specs.Prelude.{◌≡◌, if◌then◌else◌, true, false, Some, Ok, Err};
 ghost use Rattle.serf_wire.specs.Decoded.{decoded};
@@ -21,8 +21,7 @@ use serf_snapshot::{AppendLineError, MemorySink};
 use serf_wire::Bytes;
 use std::alloc::Global;
 
-/// The code that C gets for a push/pull: `Done` if it was merged, or the code of the `error` for which not all of it
-/// was.
+/// The code that C gets for a push/pull: `Done` if all of it was merged, and otherwise the code of the `error`.
 fn merged_code(error: Option<MergeError>) -> Code
     ensures { result ≡ merged_code error }
 {
@@ -32,7 +31,7 @@ fn merged_code(error: Option<MergeError>) -> Code
     }
 }
 
-/// The code that C gets for the agent's `answer` to encoding its state: the packet, or the error.
+/// The code that C gets for `answer`, the agent's result of encoding its state: the packet, or the error.
 fn state_code(answer: &Result<Bytes, PushPullError>) -> Code
     ensures code { result ≡ answer_code state_code answer.now }
     ensures memory { answer.now ≡ Err PushPullError.OutOfMemory → result ≡ Code.OutOfMemory }
@@ -43,7 +42,7 @@ fn state_code(answer: &Result<Bytes, PushPullError>) -> Code
     }
 }
 
-/// The code that C gets for the agent's `answer` to writing a line or compacting its text.
+/// The code that C gets for `answer`, the agent's result of writing a line or compacting its text.
 fn appended_code(answer: &Result<(), AppendLineError>) -> Code
     ensures code { result ≡ answer_code append_line_code answer.now }
     ensures memory { answer.now ≡ Err AppendLineError.OutOfMemory → result ≡ Code.OutOfMemory }
@@ -55,7 +54,7 @@ fn appended_code(answer: &Result<(), AppendLineError>) -> Code
 }
 
 /// Merges `packet`, another agent's whole state, into `agent`, and appends the new events to `events`. Returns the
-/// error if not all of it was merged. `is_join` says whether the state was exchanged for a join.
+/// error if not all of it was merged. `is_join` is true if the state was exchanged for a join.
 fn merge_into(
     agent: &mut Agent<MemorySink>,
     alloc: Global,
@@ -77,7 +76,7 @@ fn merge_into(
 }
 
 impl Session {
-    /// Merges `packet`, another agent's whole state, and keeps its new events to be read.
+    /// Merges `packet`, another agent's whole state, and keeps the state's new events for the getters.
     pub(crate) fn merge(&mut self, alloc: Global, packet: &[u8], is_join: bool) -> Code
         ensures waits { Waits self.old self.new result }
         ensures tells { Tells self.old self.new }
@@ -95,7 +94,8 @@ impl Session {
         merged_code(error)
     }
 
-    /// Makes the packet with the agent's whole state and the members that were added for it, which it then forgets.
+    /// Makes the packet with the agent's whole state and the members that were added for it. Then forgets these
+    /// members, unless memory ran out.
     pub(crate) fn local_state(&mut self, alloc: Global) -> Code
         ensures waits { Waits self.old self.new result }
         ensures forgets { ForgetsMembers self.old self.new result }
@@ -150,7 +150,7 @@ impl Session {
         }
     }
 
-    /// Compacts the agent's text. The new text replaces that of the host's file.
+    /// Compacts the agent's text. The new text is pending, and is to replace the text of the host's file.
     pub(crate) fn compact(&mut self, alloc: Global) -> Code
         ensures waits { Waits self.old self.new result }
         ensures memory { IsUncompacted self.old self.new result }

@@ -1,4 +1,4 @@
-//! Times of the member clock, which a host that keeps members passes to the agent.
+//! Lets a host that keeps track of members pass their times to the agent's member clock.
 
 ghost use Rattle.serf_agent_c.specs.Calls.{Waits};
 ghost use Rattle.serf_agent_c.specs.Exports.{Answers};
@@ -11,8 +11,8 @@ use serf_lamport::Time;
 use std::alloc::Global;
 
 impl Session {
-    /// Observes `time` by the member clock, which is later than `time` from then on. The code is `Exhausted` if it is
-    /// 2^64 - 1.
+    /// Observes `time`. From then on, the member clock is later than `time`. If `time` is 2^64 - 1, the code is
+    /// `Exhausted`.
     fn observe_member(&mut self, time: u64) -> Code
         ensures waits { Waits self.old self.new result }
         ensures rest { KeepsRest self.old self.new result }
@@ -31,8 +31,8 @@ impl Session {
     }
 }
 
-/// Observes `time`, at which a member joined, left or got its status: the member clock is later than `time` from then
-/// on. 2^64 - 1 is not a valid time, and is refused as `EXHAUSTED`.
+/// Observes `time`, the time at which a member joined, left or got its status. From then on, the member clock is later
+/// than `time`. If `time` is 2^64 - 1, which is not a valid time, the code is `EXHAUSTED`.
 #[unsafe(no_mangle)]
 pub extern "C" fn serf_agent_observe_member(alloc: Global, handle: &mut Handle, time: u64) -> u32
     ensures waits { Answers (λ s t code. Waits s t code) handle.old handle.new result }

@@ -1,4 +1,4 @@
-//! What C reads of the events that a text leaves open: they were handed out, and they aren't done.
+//! Lets C read the events that a text leaves open: those that were handed out and aren't done.
 
 ghost use Rattle.std.specs.Prelude.{◌≡◌, ◌≢◌, ◌++◌, ◌∷◌, [], IfOk, OnOk};
 ghost use Rattle.serf_snapshot.specs.Handlers.{open_events};
@@ -11,8 +11,8 @@ use crate::copies::copy_into;
 use serf_snapshot::{OpenEvent, is_tracked, read_open_events};
 use std::alloc::{AllocError, Global};
 
-/// How many events a text leaves open, the total length of their names and payloads in bytes, and whether the text says
-/// what became of handlers.
+/// The number of events that a text leaves open, the total length of their names and payloads in bytes, and whether the
+/// text records what became of handlers.
 #[repr(C)]
 #[derive(Clone, Copy)]
 pub struct OpenEventsHead {
@@ -32,7 +32,7 @@ pub struct OpenEventHead {
     pub begun: bool,
 }
 
-/// What C reads of `entry`, apart from its texts.
+/// Makes the struct that C reads for `entry`. It doesn't contain the event's texts.
 fn head_of(entry: &OpenEvent) -> OpenEventHead
     ensures { result ≡ open_event_head entry.now }
 {
@@ -44,7 +44,7 @@ fn head_of(entry: &OpenEvent) -> OpenEventHead
     }
 }
 
-/// Appends `head`, what C reads of an open event.
+/// Appends `head`, the struct of an open event, to `out`.
 fn write_head(out: &mut Vec<OpenEventHead>, head: OpenEventHead) -> Result<(), AllocError>
     ensures { OnOk result (out.new.items ≡ out.old.items ++ head ∷ []) }
 {
@@ -121,9 +121,10 @@ fn read(
     Code::Done
 }
 
-/// Fills `all` with the number of events that `text` leaves open, the total length of their texts, and whether the text
-/// says what became of handlers; `events` with as many of these events as fit, in the order in which they were handed
-/// out; and `texts` with as much of their names and payloads, one event after another, as fits.
+/// Reads the events that `text` leaves open. Fills `all` with their number, with the total length of their texts, and
+/// with whether the text records what became of handlers. Fills `events` with as many of these events as fit, in the
+/// order in which they were handed out, and `texts` with as much of their names and payloads as fits, one event after
+/// another.
 #[unsafe(no_mangle)]
 pub extern "C" fn serf_agent_open_events(
     alloc: Global,

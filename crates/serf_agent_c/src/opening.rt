@@ -22,15 +22,15 @@ use serf_wire::Bytes;
 use std::alloc::{AllocError, Global};
 use std::collections::VecDeque;
 
-/// The limit of a packet in bytes: `limit`, or Serf's own limit `serfs` if `limit` is 0, which it is if a host in C
-/// leaves the field out.
+/// The limit of a packet in bytes: `limit`, or Serf's own limit `serfs` if `limit` is 0. It is 0 if a host in C leaves
+/// the field out.
 fn limit_or(serfs: u64, limit: u64) -> u64
     ensures { result ≡ limit_or serfs limit }
 {
     if limit == 0 { serfs } else { limit }
 }
 
-/// The settings of the agent `name`, from the `settings` that C passes.
+/// Makes the settings of the agent `name` from the `settings` that C passes.
 fn config_of(alloc: Global, name: &[u8], settings: &Settings) -> Result<Config, AllocError>
     ensures { IfOk result (λ config. config ≡ config_of name.now settings.now) }
 {

@@ -1,7 +1,7 @@
-//! What C reads of the query that the last call fired.
+//! Lets C read the Lamport time of the query that the last call fired.
 
 ghost use Rattle.std.specs.Prelude.{◌≡◌, ◌≢◌};
-ghost use Rattle.serf_agent_c.specs.FiredQueryTime.{asked_time_in};
+ghost use Rattle.serf_agent_c.specs.FiredQueryTime.{query_time_in};
 ghost use Rattle.serf_agent_c.specs.Exports.{FillsIfDone, Shows};
 ghost use Rattle.serf_agent_c.specs.Reads.{ReadsAs};
 ghost use Rattle.serf_agent_c.specs.Sessions.{is_ready};
@@ -15,7 +15,7 @@ use std::alloc::Global;
 impl CallResult {
     /// The Lamport time of the query that the call fired, if it fired one.
     fn fired_query_time(&self) -> Option<u64>
-        ensures { result ≡ asked_time_in self.now }
+        ensures { result ≡ query_time_in self.now }
     {
         match self {
             CallResult::QueryFired(Ok(fired)) => Some(fired.time.get()),
@@ -26,8 +26,8 @@ impl CallResult {
 
 impl Session {
     /// Sets `time` to the Lamport time of the query that the last call fired. The code is `Nothing` if it fired none.
-    fn read_asked_time(&self, time: &mut u64) -> Code
-        ensures reads { ReadsAs (is_ready self.now) (asked_time_in self.now.call_result)
+    fn read_query_time(&self, time: &mut u64) -> Code
+        ensures reads { ReadsAs (is_ready self.now) (query_time_in self.now.call_result)
             (λ t. time.new ≡ t) result }
         ensures same { result ≢ Code.Done → time.new ≡ time.old }
     {
@@ -42,18 +42,18 @@ impl Session {
     }
 }
 
-/// Sets `time` to the Lamport time of the query that the last call fired. An answer to the query has this time, and its
-/// ID.
+/// Sets `time` to the Lamport time of the query that the last call fired. Each answer to the query carries this time
+/// and the query's ID.
 #[unsafe(no_mangle)]
 pub extern "C" fn serf_agent_query_time(alloc: Global, handle: &mut Handle, time: &mut u64) -> u32
-    ensures reads { Shows (λ s code. ReadsAs (is_ready s) (asked_time_in s.call_result)
+    ensures reads { Shows (λ s code. ReadsAs (is_ready s) (query_time_in s.call_result)
         (λ t. time.new ≡ t) code) handle.old handle.new result }
     ensures same { FillsIfDone (time.new ≡ time.old) result }
 {
     let Some(session) = handle.take(alloc) else {
         return Code::Empty.number();
     };
-    let code = session.read_asked_time(time);
+    let code = session.read_query_time(time);
     *handle = Handle::of(session);
     code.number()
 }

@@ -1,5 +1,4 @@
-//! What C reads of a session: the result of its last call, the bytes that are pending for the host's file, and the
-//! clocks.
+//! Lets C read a session: the result of its last call, the bytes that are pending for the host's file, and the clocks.
 
 ghost use Rattle.std.specs.Prelude.{◌≢◌, Some, ◌≡◌, ◌+◌, if◌then◌else◌, length, slice_get, option_copied};
 ghost use Rattle.std.specs.Option.{is_some};
@@ -98,7 +97,7 @@ impl CallResult {
         }
     }
 
-    /// How many events the call handed out.
+    /// The number of events that the call handed out.
     fn events(&self) -> usize
         ensures { result ≡ length (events_in self.now) }
     {
@@ -112,8 +111,8 @@ impl CallResult {
 }
 
 impl Session {
-    /// Fills `call_result` with the result of the last call. A query that it handed out has the number after those that
-    /// wait.
+    /// Fills `call_result` with the result of the last call. If the call handed out a query, this query has the next
+    /// number after all earlier ones.
     pub(crate) fn read_call_result(&self, call_result: &mut ResultHead)
         ensures { call_result.new
             ≡ record {
@@ -141,8 +140,8 @@ impl Session {
         };
     }
 
-    /// Fills `bytes` with how many bytes are pending for the host's file, and `to` with as many of the first of them as
-    /// fit.
+    /// Fills `bytes` with the number of bytes that are pending for the host's file, and `to` with as many of them as
+    /// fit, from the first on.
     pub(crate) fn read_pending(&self, bytes: &mut BytesHead, to: &mut [u8])
         ensures head { bytes.new
             ≡ record {
@@ -187,7 +186,8 @@ impl Session {
         Code::Done
     }
 
-    /// Fills `len` and `to` with the packet to send that the last call made: its length, and as much of it as fits.
+    /// Sets `len` to the length of the outgoing packet that the last call made, and fills `to` with as much of it as
+    /// fits.
     pub(crate) fn read_packet(&self, len: &mut usize, to: &mut [u8]) -> Code
         ensures reads { ReadsAs (is_ready self.now) (packet_in self.now.call_result)
             (λ p. (len.new ≡ length p) × (to.new ≡ copied p to.old)) result }
@@ -203,7 +203,7 @@ impl Session {
         Code::Done
     }
 
-    /// Sets `len` to the length of the ack to send that the last call made, and fills `to` with as much of it as fits.
+    /// Sets `len` to the length of the outgoing ack that the last call made, and fills `to` with as much of it as fits.
     pub(crate) fn read_ack(&self, len: &mut usize, to: &mut [u8]) -> Code
         ensures reads { ReadsAs (is_ready self.now) (ack_in self.now.call_result)
             (λ p. (len.new ≡ length p) × (to.new ≡ copied p to.old)) result }
@@ -240,7 +240,7 @@ impl Session {
     }
 }
 
-/// What C reads of the event `out`, which was handed out, apart from its texts.
+/// Makes the struct that C reads for `out`, an event that was handed out. It doesn't contain the event's texts.
 fn head_of_event(out: &EventOut) -> EventHead
     ensures { result ≡ event_head out.now }
 {

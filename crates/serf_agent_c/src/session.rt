@@ -1,4 +1,5 @@
-//! The session of a handle: an agent, the result of its last call, and which bytes are pending for the host's file.
+//! The session of a handle: an agent, the result of its last call, and a record of the bytes that are pending for the
+//! host's file.
 
 ghost use Rattle.std.specs.Prelude.{◌≡◌, false, true, length, Err, IsOk, None, OnOk, OnErr};
 ghost use Rattle.serf_agent_c.specs.ResultParts.{unsettled_in};
@@ -16,14 +17,14 @@ use serf_snapshot::MemorySink;
 use std::alloc::AllocError;
 use std::collections::VecDeque;
 
-/// An agent whose sink, in memory, keeps the text of the host's file, together with what a host still has to read, and
-/// what it added for a later call.
+/// An agent, the results that the host has yet to read, and the items that the host added for a later call. The agent's
+/// sink is in memory and keeps the text of the host's file.
 #[derive(Drop)]
 pub struct Session {
     pub(crate) agent: Agent<MemorySink>,
     /// The result of the last call.
     pub(crate) call_result: CallResult,
-    /// How many bytes of the agent's text the host's file has.
+    /// The number of bytes of the agent's text that the host's file has.
     pub(crate) written: usize,
     /// Whether the bytes that are pending for the host's file replace its text. Otherwise they are appended.
     pub(crate) replaces: bool,
@@ -36,7 +37,7 @@ pub struct Session {
     pub(crate) status: Vec<Member>,
     /// The names of the members that left, which the host added for the next state.
     pub(crate) left: BytesList,
-    /// The outcomes of a burst that were not read yet, in the order of its calls.
+    /// The outcomes of a burst that the host hasn't read yet, in the order of the calls.
     pub(crate) burst: VecDeque<BurstOutcome>,
 }
 
@@ -59,7 +60,8 @@ impl Session {
         !self.replaces && self.pending_bytes().is_empty()
     }
 
-    /// Records that the host's file has all of the agent's text: no byte of it is pending, and none replaces it.
+    /// Records that the host's file has all of the agent's text: no byte is pending, and no text is to replace the
+    /// file's.
     pub(crate) fn mark_flushed(&mut self)
         ensures written { self.new.written ≡ length (text_of self.old.agent.device) }
         ensures replaces { self.new.replaces ≡ false }
@@ -72,8 +74,8 @@ impl Session {
         self.replaces = false;
     }
 
-    /// Forgets the result of the last call, but adds its query to those that wait. If there is no memory for that,
-    /// `call_result` keeps the query.
+    /// Forgets the result of the last call. If this call handed out a query, adds the query to those that wait. If
+    /// there is no memory for that, `call_result` keeps the query.
     fn settle(&mut self) -> Result<(), AllocError>
         ensures ok { OnOk result ((numbered self.new.waiting ≡ settled self.old)
             × (self.new.call_result ≡ CallResult.Nothing)) }
@@ -97,7 +99,7 @@ impl Session {
     }
 
     /// Prepares for a call of the agent: forgets the result of the last call, but not its query (see `settle`). While
-    /// bytes are pending for the host's file, it returns `Pending` and changes nothing.
+    /// bytes are pending for the host's file, returns `Pending` and changes nothing.
     pub(crate) fn begin(&mut self) -> Result<(), Code>
         ensures ok { OnOk result ((is_ready self.old ≡ true)
             × (numbered self.new.waiting ≡ settled self.old)
@@ -117,7 +119,7 @@ impl Session {
         if !self.is_ready() {
             return Err(Code::Pending);
         }
-        // (the file has all of the text; `written` may have been more than its length, and is its length from here on)
+        // (the file has all of the text; `written` may have been larger than the text's length, and is set to it here)
         self.mark_flushed();
         match self.settle() {
             Ok(()) => Ok(()),

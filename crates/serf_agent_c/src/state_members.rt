@@ -1,4 +1,4 @@
-//! What C reads of the members that a push/pull's packet names. The agent keeps no members, but a host may.
+//! Lets C read the members that a push/pull's packet lists. The agent keeps no members, but a host may.
 
 ghost use Rattle.std.specs.Prelude.{◌≡◌, ◌≢◌, ◌++◌, ◌∷◌, [], map, IfOk, OnOk};
 ghost use Rattle.std.specs.List.{flat_map};
@@ -15,7 +15,7 @@ use crate::copies::copy_into;
 use serf_wire::{Message, StatusTimes, Texts, decode};
 use std::alloc::{AllocError, Global};
 
-/// A member that a push/pull names, either among those that left, or with the time of its status by the member clock.
+/// A member in a push/pull: one that left, or one with the time of its status by the member clock.
 #[repr(C)]
 #[derive(Clone, Copy)]
 pub struct MemberHead {
@@ -24,7 +24,7 @@ pub struct MemberHead {
     pub left: bool,
 }
 
-/// The member clock of a push/pull's sender, how many members the push/pull names, and the total length of their names
+/// The member clock of a push/pull's sender, how many members the push/pull lists, and the total length of their names
 /// in bytes.
 #[repr(C)]
 #[derive(Clone, Copy)]
@@ -34,8 +34,8 @@ pub struct MembersHead {
     pub names_len: usize,
 }
 
-/// What a push/pull says about members, borrowed from its packet: the sender's clock, the members with a status time,
-/// and those that left.
+/// The members in a push/pull, borrowed from its packet: the sender's member clock, the members with a status time, and
+/// those that left.
 #[derive(Clone, Copy)]
 pub struct BorrowedMembers<'a> {
     clock: u64,
@@ -43,7 +43,7 @@ pub struct BorrowedMembers<'a> {
     left: Texts<'a>,
 }
 
-/// What `message` says about members, if it is a push/pull.
+/// The members in `message`, if it is a push/pull.
 fn members_of<'a>(message: &Message<'a>) -> Option<BorrowedMembers<'a>>
     ensures { option_map members_borrowed result ≡ members_of (message_of message.now) }
 {
@@ -57,7 +57,7 @@ fn members_of<'a>(message: &Message<'a>) -> Option<BorrowedMembers<'a>>
     }
 }
 
-/// What `packet` says about members, if it is a push/pull. `None` if it is another message, or not a message.
+/// The members in `packet`, if it is a push/pull; `None` if it is another message, or not a message.
 fn borrowed_members(packet: &[u8]) -> Option<BorrowedMembers<'_>>
     ensures { option_map members_borrowed result ≡ members_in (decoded packet.now) }
 {
@@ -67,7 +67,7 @@ fn borrowed_members(packet: &[u8]) -> Option<BorrowedMembers<'_>>
     }
 }
 
-/// Appends `head`, what C reads of a member.
+/// Appends `head`, the struct of a member, to `out`.
 fn write_head(out: &mut Vec<MemberHead>, head: MemberHead) -> Result<(), AllocError>
     ensures { OnOk result (out.new.items ≡ out.old.items ++ head ∷ []) }
 {
@@ -93,7 +93,7 @@ fn write_status_heads(out: &mut Vec<MemberHead>, status: StatusTimes) -> Result<
     Ok(())
 }
 
-/// Appends the heads of the members that left, whose names `left` has.
+/// Appends the heads of the members that left. `left` has their names.
 fn write_left_heads(out: &mut Vec<MemberHead>, left: Texts) -> Result<(), AllocError>
     ensures { OnOk result (out.new.items ≡ out.old.items ++ map left_head (texts_left left.entry)) }
 {
@@ -132,7 +132,7 @@ pub(crate) fn write_texts(out: &mut Vec<u8>, texts: Texts) -> Result<(), AllocEr
     Ok(())
 }
 
-/// The heads of the members that `borrowed` names: first those with a status time, then those that left.
+/// The heads of the members in `borrowed`: first those with a status time, then those that left.
 fn heads_of(alloc: Global, borrowed: &BorrowedMembers) -> Result<Vec<MemberHead>, AllocError>
     ensures { IfOk result (λ heads. heads.items ≡ member_heads (members_borrowed borrowed.now)) }
 {
@@ -142,7 +142,7 @@ fn heads_of(alloc: Global, borrowed: &BorrowedMembers) -> Result<Vec<MemberHead>
     Ok(heads)
 }
 
-/// The names of the members that `borrowed` names, one after another, in the order of their heads.
+/// The names of the members in `borrowed`, one after another, in the order of their heads.
 fn names_of(alloc: Global, borrowed: &BorrowedMembers) -> Result<Vec<u8>, AllocError>
     ensures { IfOk result (λ names. names.items ≡ member_names (members_borrowed borrowed.now)) }
 {
@@ -152,7 +152,7 @@ fn names_of(alloc: Global, borrowed: &BorrowedMembers) -> Result<Vec<u8>, AllocE
     Ok(names)
 }
 
-/// Fills `all`, `members` and `names` with what `packet` says about members, if it is a push/pull.
+/// If `packet` is a push/pull, fills `all`, `members` and `names` with the members in it.
 fn read_members(
     alloc: Global,
     packet: &[u8],
@@ -185,9 +185,10 @@ fn read_members(
     Code::Done
 }
 
-/// Fills `all` with the member clock of `packet`, a push/pull, the number of members that it names, and the total
-/// length of their names; `members` with as many of these as fit, those with a status time first; and `names` with as
-/// much of their names, one after another, as fits. If the packet is not a push/pull, the code is `NOTHING`.
+/// Reads the members in `packet`, a push/pull. Fills `all` with the sender's member clock, the number of members, and
+/// the total length of their names. Fills `members` with as many of the members as fit, those with a status time first,
+/// and `names` with as much of their names as fits, one after another. If the packet is not a push/pull, the code is
+/// `NOTHING`.
 #[unsafe(no_mangle)]
 pub extern "C" fn serf_agent_state_members(
     alloc: Global,

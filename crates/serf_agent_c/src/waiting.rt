@@ -11,17 +11,17 @@ use std::alloc::Global;
 /// that was answered or forgotten no longer waits, and its number isn't used again.
 #[derive(Drop)]
 pub struct Waiting {
-    /// How many queries were handed out so far, which is the number of the latest one.
+    /// The number of queries that were handed out so far, which is also the number of the latest one.
     pub(crate) handed: u64,
-    /// The queries that wait, each after its number.
+    /// The queries that wait, with their numbers.
     pub(crate) queries: Vec<(u64, PendingQuery)>,
     ghost room: { handed < 2 ^ 64 - 1 },
     ghost below: { All (λ w. w.0 ≤ handed) queries.items },
     ghost once: { AllPairs (λ v w. v.0 < w.0) queries.items },
 }
 
-/// The index in `queries` of the query with this `number`, if it waits. A binary search finds it, because the numbers
-/// rise.
+/// The index in `queries` of the query with this `number`, if it waits. The numbers rise, so a binary search finds the
+/// query.
 fn place_of(queries: &[(u64, PendingQuery)], number: u64) -> Option<usize>
     requires { AllPairs (λ v w. v.0 < w.0) queries.now }
     ensures { result ≡ position (λ w. w.0 == number) queries.now }
@@ -47,7 +47,7 @@ impl Waiting {
     ghost use Rattle.serf_agent_c.specs.Asking.{left_of, reply_of};
     ghost use Rattle.serf_agent_c.specs.Numbered.{IsNumbered, WaitsInTime, in_time, numbered, waiting_at, with_handed, without};
 
-    /// The queries that wait before any was handed out, which is none. Allocates no memory.
+    /// Makes the list for an agent that hasn't handed out a query yet. It is empty. Allocates no memory.
     pub(crate) fn new(alloc: Global) -> Waiting
         ensures { numbered result ≡ record { handed = 0; waiting = [] } }
     {
@@ -98,7 +98,7 @@ impl Waiting {
         }
     }
 
-    /// Answers the query with this `number` at the moment `now`, in nanoseconds, if it waits, and takes it out. If the
+    /// If the query with this `number` waits, answers it at the moment `now`, in nanoseconds, and removes it. If the
     /// answer is refused, the query keeps waiting.
     pub(crate) fn respond(
         &mut self,
@@ -130,7 +130,7 @@ impl Waiting {
         }
     }
 
-    /// Takes out the query with this `number`, if it waits, and returns whether it did. Allocates no memory.
+    /// If the query with this `number` waits, removes it. Returns whether the query waited. Allocates no memory.
     pub(crate) fn forget(&mut self, number: u64) -> bool
         ensures known { (q : DeliveredQuery) → waiting_at number self.old.queries.items ≡ Some q
             → result ≡ true }
@@ -147,7 +147,7 @@ impl Waiting {
         }
     }
 
-    /// Takes out the queries whose deadline is before the moment `now`, in nanoseconds. Allocates no memory.
+    /// Removes the queries whose deadline is before the moment `now`, in nanoseconds. Allocates no memory.
     pub(crate) fn forget_late(&mut self, now: u64)
         ensures left { numbered self.new ≡ in_time now (numbered self.old) }
         ensures in_time { WaitsInTime now (numbered self.new) }

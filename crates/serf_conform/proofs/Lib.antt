@@ -5,4 +5,5 @@ pub mod SessionLemmas
 pub mod HuntLemmas
 pub mod SublistLemmas
 pub mod SweepLemmas
+pub mod MissingLemmas
 pub mod TrialLemmas

@@ -44,8 +44,10 @@ pub use Rattle.serf_conform.specs.Hunt.{AfterSweep, HoldsSeed, Hunt, Hunts, IsHu
 pub use Rattle.serf_conform.specs.ReportMembers.{member_text}
 pub use Rattle.serf_conform.specs.Report.{json_byte}
 pub use Rattle.serf_conform.specs.Sublist.{IsSublist, deletions}
-pub use Rattle.serf_conform.specs.Sweep.{IsLeftAfter, IsSweeping, Sweep, Sweeps, after_session, is_other, no_counts, sum_of, sweep, sweep_from}
+pub use Rattle.serf_conform.specs.Sweep.{IsLeftAfter, IsSweeping, Sweep, Sweeps, after_session, is_differing, no_counts, sum_of, sweep, sweep_from}
 pub use Rattle.serf_conform.specs.Sweep.{with_verdict}
+pub use Rattle.serf_conform.specs.Case.{turns_in}
+pub use Rattle.serf_conform.specs.Without.{actions_of, left_in, own_from, without}
 pub use Rattle.serf_conform.specs.Trials.{IsLeftBy, IsNarrowing, IsReached, IsShrunk, IsTried, NarrowsTo, ShrinksTo, Trials, after_trial, failed_by}
 pub use Rattle.serf_conform.specs.Trials.{trial, trials}
 pub use Rattle.serf_conform.specs.declared.asking.TurnOutcome.{TurnOutcome}
@@ -57,6 +59,8 @@ pub use Rattle.serf_conform.specs.declared.verdict.ConformError.{ConformError}
 pub use Rattle.serf_conform.specs.declared.verdict.Verdict.{Verdict}
 pub use Rattle.serf_conform.specs.declared.verdict.End.{End}
 pub use Rattle.serf_conform.specs.declared.agent_calls.Call.{Call}
+pub use Rattle.serf_conform.specs.declared.missing.MissingCalls.{MissingCalls}
+pub use Rattle.serf_conform.specs.declared.missing.OwnCall.{OwnCall}
 pub use Rattle.serf_conform.specs.declared.sweep.Counts.{Counts}
 pub use Rattle.serf_conform.specs.declared.sweep.Held.{Held}
 pub use Rattle.serf_conform.specs.declared.sweep.Other.{Other}

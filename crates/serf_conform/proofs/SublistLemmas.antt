@@ -23,16 +23,16 @@ drop-sublist zero xs = sublist-refl xs
 drop-sublist (suc n) [] = tt
 drop-sublist (suc n) (x ∷ xs) = following (drop n xs) x xs (drop-sublist n xs)
 
-pub cut-sublist : {A : Type 0} (i j : ℕ) (xs : List A) → i ≤ j → IsSublist (take i xs ++ drop j xs) xs
-cut-sublist zero j xs below = drop-sublist j xs
-cut-sublist (suc i) zero xs below = absurd (omega arith)
-cut-sublist (suc i) (suc j) [] below = tt
-cut-sublist (suc i) (suc j) (x ∷ xs) below = inl (refl, cut-sublist i j xs (omega arith))
+pub removed-sublist : {A : Type 0} (i j : ℕ) (xs : List A) → i ≤ j → IsSublist (take i xs ++ drop j xs) xs
+removed-sublist zero j xs below = drop-sublist j xs
+removed-sublist (suc i) zero xs below = absurd (omega arith)
+removed-sublist (suc i) (suc j) [] below = tt
+removed-sublist (suc i) (suc j) (x ∷ xs) below = inl (refl, removed-sublist i j xs (omega arith))
 
-pub cut-length : {A : Type 0} (i j : ℕ) (xs : List A) → i ≤ j → j ≤ length xs → length (take i xs ++ drop j xs) ≡ length xs - (j - i)
-cut-length zero j xs below within = rw (length-drop j xs) (omega arith)
-cut-length (suc i) zero xs below within = absurd (omega arith)
-cut-length (suc i) (suc j) [] below within = absurd (omega arith)
-cut-length (suc i) (suc j) (x ∷ xs) below within =
-    let rest = cut-length i j xs (omega arith) (omega arith) in
+pub removed-length : {A : Type 0} (i j : ℕ) (xs : List A) → i ≤ j → j ≤ length xs → length (take i xs ++ drop j xs) ≡ length xs - (j - i)
+removed-length zero j xs below within = rw (length-drop j xs) (omega arith)
+removed-length (suc i) zero xs below within = absurd (omega arith)
+removed-length (suc i) (suc j) [] below within = absurd (omega arith)
+removed-length (suc i) (suc j) (x ∷ xs) below within =
+    let rest = removed-length i j xs (omega arith) (omega arith) in
     omega (arith, rest)

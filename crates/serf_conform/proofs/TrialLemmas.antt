@@ -12,7 +12,7 @@ use Rattle.serf_conform.specs.declared.verdict.End.{End}
 use Rattle.serf_conform.specs.declared.verdict.End.TheVariants as ends
 use Rattle.serf_conform.specs.declared.verdict.Verdict.{Verdict}
 use Rattle.serf_conform.specs.declared.trying.Outcome.TheVariants as outcomes
-use Rattle.serf_conform.proofs.SublistLemmas.{cut-sublist, sublist-refl, sublist-trans}
+use Rattle.serf_conform.proofs.SublistLemmas.{removed-sublist, sublist-refl, sublist-trans}
 
 -- what the reader has left when a comparison has ended
 left_by : (e : End) (new : Option (List ℕ)) (rest : List ℕ) → IsLeft e new rest → IsLeftBy (ended.outcome_of e) new rest
@@ -174,7 +174,7 @@ pub along_cut : (serf : Bool) (config : Config) (calls kept cand : List Call) (i
 along_cut serf config calls kept cand i k last input mid new from at to outcome along tried is left =
     let below : i ≤ i + k = omega arith in
     along_fails serf config calls kept cand last input mid new from at to outcome along tried is
-    (sublist-trans cand kept calls (subst (λ (l : List Call). IsSublist l kept) (sym left) (cut-sublist i (i + k) kept below)) along.reached.sublist)
+    (sublist-trans cand kept calls (subst (λ (l : List Call). IsSublist l kept) (sym left) (removed-sublist i (i + k) kept below)) along.reached.sublist)
 
 -- a trial that agrees, without the next call
 pub along_one : (serf : Bool) (config : Config) (calls kept cand : List Call) (n : ℕ) (input : List ℕ) (mid new from at to : Option (List ℕ)) (outcome : Outcome)

@@ -31,9 +31,9 @@ ReadsReply (Some input) (Some rest) text = first_reply input ≡ Some (record { 
 
 -- A reader returned the first reply of its known bytes, or they don't have a complete reply.
 abbrev pub Hears : Option Cut → Option (List ℕ) → Option (List ℕ) → Type 0
-Hears cut None new = cut ≡ None
-Hears cut (Some text) None = ⊥
-Hears cut (Some text) (Some rest) = cut ≡ Some (record { text = text; rest = rest })
+Hears split None new = split ≡ None
+Hears split (Some text) None = ⊥
+Hears split (Some text) (Some rest) = split ≡ Some (record { text = text; rest = rest })
 
 -- After this text of a reply, what is left of the known bytes is cut at the same place as all known bytes are.
 abbrev pub IsCutAlike : Option (List ℕ) → Option (List ℕ) → Bool → Bool → List ℕ → Type 0

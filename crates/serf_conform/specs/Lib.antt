@@ -17,3 +17,4 @@ pub mod ReportMembers
 pub mod Sublist
 pub mod Sweep
 pub mod Trials
+pub mod Without

@@ -38,7 +38,7 @@ outcome_by judgements.Unsupported text = asks.Unsupported
 
 abbrev pub outcome_in : List ℕ → Said → Option Cut → OutcomeOf
 outcome_in given wanted None = record { outcome = asks.Ended; rest = [] }
-outcome_in given wanted (Some cut) = record { outcome = outcome_by (judged given wanted (reply_of cut.text)) cut.text; rest = cut.rest }
+outcome_in given wanted (Some split) = record { outcome = outcome_by (judged given wanted (reply_of split.text)) split.text; rest = split.rest }
 
 -- the outcome of a call that carried this packet, if this reply is expected and the agent writes these bytes
 abbrev pub outcome_for : List ℕ → Said → List ℕ → OutcomeOf
@@ -47,7 +47,7 @@ outcome_for given wanted input = outcome_in given wanted (first_reply input)
 -- the outcome of a `look`, if this state is expected
 abbrev pub dumped_in : Bool → StateDump → Option Cut → OutcomeOf
 dumped_in serf dump None = record { outcome = asks.Ended; rest = [] }
-dumped_in serf dump (Some cut) = record { outcome = outcome_by (dump_judged serf dump (reply_of cut.text)) cut.text; rest = cut.rest }
+dumped_in serf dump (Some split) = record { outcome = outcome_by (dump_judged serf dump (reply_of split.text)) split.text; rest = split.rest }
 
 abbrev pub dumped_of : Bool → StateDump → List ℕ → OutcomeOf
 dumped_of serf dump input = dumped_in serf dump (first_reply input)

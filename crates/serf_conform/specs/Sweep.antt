@@ -19,7 +19,7 @@ tally a b = min (a + b) (2 ^ 64 - 1)
 
 -- the sums over no agent, with one more verdict, and of two groups of agents
 abbrev pub no_counts : Counts
-no_counts = record { agents = 0; calls = 0; unsupported_agents = 0; unsupported_dumps = 0 }
+no_counts = record { agents = 0; calls = 0; openings = 0; unsupported_agents = 0; unsupported_dumps = 0 }
 
 -- 1 if the comparison ended at a call that is unsupported, and otherwise 0
 abbrev pub ends_unsupported : End → ℕ
@@ -34,6 +34,7 @@ with_verdict n v =
     record {
       agents = tally n.agents 1;
       calls = tally n.calls v.calls;
+      openings = tally n.openings (min v.calls 1);
       unsupported_agents = tally n.unsupported_agents (ends_unsupported v.end);
       unsupported_dumps = tally n.unsupported_dumps v.unsupported_dumps;
     }
@@ -43,17 +44,18 @@ sum_of n m =
     record {
       agents = tally n.agents m.agents;
       calls = tally n.calls m.calls;
+      openings = tally n.openings m.openings;
       unsupported_agents = tally n.unsupported_agents m.unsupported_agents;
       unsupported_dumps = tally n.unsupported_dumps m.unsupported_dumps;
     }
 
 -- An agent replied differently, or has ended.
-abbrev pub is_other : End → Bool
-is_other ends.AllAgree = false
-is_other ends.OwnRule = false
-is_other ends.Unsupported = false
-is_other (ends.Differs text) = true
-is_other ends.Ended = true
+abbrev pub is_differing : End → Bool
+is_differing ends.AllAgree = false
+is_differing ends.OwnRule = false
+is_differing ends.Unsupported = false
+is_differing (ends.Differs text) = true
+is_differing ends.Ended = true
 
 -- the verdicts on the agents, what was written, and what they write after that
 pub record Sweep : Type 0 where
@@ -72,7 +74,7 @@ abbrev pub sweep_from : Bool → List Turn → ℕ → Counts → List ℕ → L
 sweep_from serf turns a counts written [] input = record { held = record { counts = counts; other = None }; written = written; rest = input }
 sweep_from serf turns a counts written (config ∷ configs) input =
     let s = session serf a config turns input in
-    after_session (is_other s.verdict.end) a counts written s (λ c w rest. sweep_from serf turns (a + 1) c w configs rest)
+    after_session (is_differing s.verdict.end) a counts written s (λ c w rest. sweep_from serf turns (a + 1) c w configs rest)
 
 -- All agents of a schedule in order, up to the first that differs. Each is opened again and compared by itself.
 abbrev pub sweep : Bool → Parsed → List ℕ → Sweep

@@ -1,4 +1,4 @@
-//! The calls that one agent got in a run, and a schedule that has only these calls.
+//! Extracts the calls that one agent got in a run, and makes a schedule that contains only those calls.
 
 ghost use Rattle.std.specs.Prelude.{◌≡◌, ◌≤◌, ◌++◌, ◌∷◌, [], ℕ, List, length, IfOk, OnOk};
 ghost use Rattle.std.specs.List.{flat_map};
@@ -19,16 +19,17 @@ use serf_schedule::Schedule;
 use serf_wire::Bytes;
 use std::alloc::{AllocError, Global};
 
-/// A call of an agent. It has the bytes of its packet, not the packet's number, so it means the same in every run.
+/// A call to an agent. The call contains the bytes of its packet instead of the packet's number, so the call means the
+/// same in every run.
 #[derive(Drop)]
 pub struct Call {
     pub act: Act,
-    /// The packet of a delivery or a merge. It is empty in every other call.
+    /// The bytes of the packet if the call is a delivery or a merge, and empty otherwise.
     pub given: Bytes,
 }
 
-/// A copy of the call of `act` with the packet `given`.
-fn copy_of_call(alloc: Global, act: &Act, given: &[u8]) -> Result<Call, AllocError>
+/// Returns a copy of the call of `act` with the packet `given`.
+pub(crate) fn copy_of_call(alloc: Global, act: &Act, given: &[u8]) -> Result<Call, AllocError>
     ensures { IfOk result (λ call. call ≡ record { act = act.now; given = given.now }) }
 {
     let act = act.try_clone(alloc)?;
@@ -36,7 +37,7 @@ fn copy_of_call(alloc: Global, act: &Act, given: &[u8]) -> Result<Call, AllocErr
     Ok(Call { act, given })
 }
 
-/// Appends copies of `calls` to `to`.
+/// Copies `calls`, and appends the copies to the list `to`.
 pub(crate) fn add_calls(alloc: Global, to: &mut Vec<Call>, calls: &[Call]) -> Result<(), AllocError>
     ensures { OnOk result (to.new.items ≡ to.old.items ++ calls.now) }
 {
@@ -46,8 +47,8 @@ pub(crate) fn add_calls(alloc: Global, to: &mut Vec<Call>, calls: &[Call]) -> Re
     Ok(())
 }
 
-/// Adds the call of the turn of `action` and `line` if it is a call of agent number `agent`. `sent` has all packets of
-/// the run, and `count` of them were sent before the turn.
+/// If `action` is a call to agent number `agent`, adds the call to `calls`. `line` is the action's line in the trace.
+/// `sent` contains all packets of the run, and the first `count` packets in `sent` were sent before the action.
 fn add_call(
     alloc: Global,
     calls: &mut Vec<Call>,
@@ -74,8 +75,9 @@ fn add_call(
     Ok(())
 }
 
-/// The calls of agent number `agent` in the run of `actions`, whose trace has these `lines` and whose packets are
-/// `sent`. Returns `OtherTrace` if the lines say that more packets were sent than there are.
+/// Returns the calls that agent number `agent` got in the run of `actions`. `lines` are the lines of the run's trace,
+/// and `sent` are the run's packets. Returns `OtherTrace` if `sent` contains fewer packets than the lines say were
+/// sent.
 fn calls_in(
     alloc: Global,
     agent: u64,
@@ -110,8 +112,9 @@ fn calls_in(
     }
 }
 
-/// The calls that agent number `agent` got in the run of `case`, in order, each with the bytes of its packet. These are
-/// the calls that [`crate::hold`] makes. Returns `OtherTrace` if the trace doesn't belong to the actions.
+/// Returns the calls that agent number `agent` got in the run of `case`, in order, each with the bytes of its packet.
+/// The returned calls are the calls that [`crate::hold`] makes. Returns `OtherTrace` if the trace doesn't belong to the
+/// actions.
 pub fn calls_of(alloc: Global, case: &Case, agent: u64) -> Result<Vec<Call>, ConformError>
     ensures { (p : Parsed) → IsRunOf p case.now
         → IfOk result (λ calls. calls.items ≡ calls_by agent (turns_in p)) }
@@ -125,8 +128,12 @@ pub fn calls_of(alloc: Global, case: &Case, agent: u64) -> Result<Vec<Call>, Con
     )
 }
 
-/// Adds an injection of the packet that `call` carries, if it carries one.
-fn add_packet(alloc: Global, actions: &mut Vec<Action>, call: &Call) -> Result<(), AllocError>
+/// If `call` carries a packet, adds an injection of the packet to `actions`.
+pub(crate) fn add_packet(
+    alloc: Global,
+    actions: &mut Vec<Action>,
+    call: &Call,
+) -> Result<(), AllocError>
     ensures { OnOk result (actions.new.items ≡ actions.old.items ++ injections_of call.now) }
 {
     match call.act {
@@ -139,8 +146,8 @@ fn add_packet(alloc: Global, actions: &mut Vec<Action>, call: &Call) -> Result<(
     }
 }
 
-/// How many packets a call carries: 1 or none.
-fn packets_of(act: &Act) -> u64
+/// Returns the number of packets that the call of `act` carries, which is 0 or 1.
+pub(crate) fn packets_of(act: &Act) -> u64
     ensures count { (given : List ℕ) → result ≡ length (packets_in act.now given) }
     ensures few { result ≤ 1 }
 {
@@ -150,8 +157,12 @@ fn packets_of(act: &Act) -> u64
     }
 }
 
-/// Copies `act`, with `packet` as the number of the packet that it carries.
-fn copy_placed(alloc: Global, packet: u64, act: &Act) -> Result<Act, AllocError>
+/// Copies `act`, and replaces the packet number in the copy (if there is one) with `packet`.
+pub(crate) fn copy_with_packet_number(
+    alloc: Global,
+    packet: u64,
+    act: &Act,
+) -> Result<Act, AllocError>
     ensures { IfOk result (λ copy. copy ≡ placed packet act.now) }
 {
     match *act {
@@ -161,7 +172,7 @@ fn copy_placed(alloc: Global, packet: u64, act: &Act) -> Result<Act, AllocError>
     }
 }
 
-/// Adds an injection for each packet that `calls` carry.
+/// Adds an injection to `actions` for each packet that `calls` carry.
 fn add_packets(alloc: Global, actions: &mut Vec<Action>, calls: &[Call]) -> Result<(), AllocError>
     ensures { OnOk result (actions.new.items ≡ actions.old.items
         ++ flat_map injections_of calls.now) }
@@ -172,35 +183,38 @@ fn add_packets(alloc: Global, actions: &mut Vec<Action>, calls: &[Call]) -> Resu
     Ok(())
 }
 
-/// Adds `calls` as actions of agent 0. Their packets are numbered in the order of the calls that carry them.
-fn add_placed(alloc: Global, actions: &mut Vec<Action>, calls: &[Call]) -> Result<(), AllocError>
+/// Adds `calls` to `actions` as actions of agent 0. The packets that the calls carry are numbered from 0, in the order
+/// of the calls.
+fn add_numbered(alloc: Global, actions: &mut Vec<Action>, calls: &[Call]) -> Result<(), AllocError>
     ensures { OnOk result (actions.new.items ≡ actions.old.items ++ placed_from 0 calls.now) }
 {
     let mut packet: u64 = 0;
     for call in calls {
-        let act = copy_placed(alloc, packet, &call.act)?;
+        let act = copy_with_packet_number(alloc, packet, &call.act)?;
         actions.push(Action::Of { agent: 0, act })?;
         packet += packets_of(&call.act);
     }
     Ok(())
 }
 
-/// The actions of a schedule with only these calls: the injections of their packets, and then the calls.
-fn alone_actions(alloc: Global, calls: &[Call]) -> Result<Vec<Action>, AllocError>
+/// Returns the actions of a schedule that makes only `calls`: first the injections of the packets that the calls carry,
+/// and then the calls themselves.
+fn solo_actions(alloc: Global, calls: &[Call]) -> Result<Vec<Action>, AllocError>
     ensures { IfOk result (λ actions. actions.items ≡ flat_map injections_of calls.now
         ++ placed_from 0 calls.now) }
 {
     let mut actions = Vec::new(alloc);
     add_packets(alloc, &mut actions, calls)?;
-    add_placed(alloc, &mut actions, calls)?;
+    add_numbered(alloc, &mut actions, calls)?;
     Ok(actions)
 }
 
-/// A schedule with the calls of one agent and nothing else. It injects the packets that the calls carry first, and then
-/// makes the calls as actions of agent 0. Returns `NoAgent` if the settings are out of bounds.
+/// Returns a schedule in which a single agent gets `calls` and no other calls. The schedule first injects the packets
+/// that the calls carry, and then makes the calls as actions of agent 0. Returns `NoAgent` if the settings are out of
+/// bounds.
 ///
-/// A response is copied unchanged: it names a query by its number among those that this schedule hands out. If there is
-/// no query with this number, the response is refused in the run.
+/// A response is copied unchanged, so the query number in the copy refers to the queries that the new schedule hands
+/// out. If the new schedule hands out no query with this number, the agent refuses the response in the run.
 pub fn alone_schedule(
     alloc: Global,
     config: &Config,
@@ -209,6 +223,6 @@ pub fn alone_schedule(
     ensures { IfOk result (λ schedule. parsed_of schedule ≡ alone config.now calls.now) }
 {
     let agents = solo_roster(alloc, config)?;
-    let actions = alone_actions(alloc, calls)?;
+    let actions = solo_actions(alloc, calls)?;
     Ok(Schedule { agents, actions })
 }

@@ -1,5 +1,5 @@
-//! Makes one call of an agent, or takes one turn of a trace, and compares the reply with the expected one. If `due` is
-//! a state, a `look` follows the call, and this state is what its reply has to show.
+//! Makes one call to an agent, or takes one turn of a trace, and compares the reply with the expected reply. If a
+//! `look` is due, it follows the call, and the reply to the `look` has to show the state `due`.
 
 ghost use Rattle.std.specs.Prelude.{◌≡◌, ◌+◌, ◌-◌, ◌^◌, ◌<◌, ◌≤◌, ℕ, List, Option, IfOk, IfSome, OnOk, Some, length};
 ghost use Rattle.std.specs.Io.KnownBytes.{Appends};
@@ -30,37 +30,38 @@ use std::io::{Read, Write};
 /// The counts of a comparison so far.
 #[derive(Clone, Copy, PartialEq, Eq)]
 pub(crate) struct Tally {
-    /// How many calls agree; the opening is one of them.
+    /// The number of calls whose replies agree, including the opening.
     pub(crate) calls: u64,
-    /// How many replies to `look` agree.
+    /// The number of replies to `look` that agree with the expected state.
     pub(crate) dumps: u64,
-    /// How many replies to `look` are `unsupported`.
+    /// The number of replies to `look` that are `unsupported`.
     pub(crate) unsupported: u64,
 }
 
 /// The outcome of a turn, of a single call, or of a single `look`.
 #[derive(Drop)]
 pub(crate) enum TurnOutcome {
-    /// The turn is not a call of the agent under test.
+    /// The turn is not a call to the agent under test.
     Skipped,
     /// The turn rests on one of this project's own rules, so its call was not made.
     OwnRule,
-    /// The reply means the same as the expected one.
+    /// The reply means the same as the expected reply.
     Agrees,
-    /// The reply is `unsupported`: the agent has no such call.
+    /// The reply is `unsupported`, which means that the agent doesn't support the call.
     Unsupported,
-    /// The reply, which has this text, doesn't mean the same as the expected one, or can't be read.
+    /// The reply can't be read, or doesn't mean the same as the expected reply. The value is the text of the reply.
     Differs(Bytes),
     /// The agent ended before its reply was complete.
     Ended,
-    /// The reply agrees, and so does the reply to the `look` after it.
+    /// The reply to the call agrees, and so does the reply to the `look` that follows.
     Looked,
-    /// The reply agrees, and the reply to the `look` after it is `unsupported`.
+    /// The reply to the call agrees, and the reply to the `look` that follows is `unsupported`.
     Unlooked,
-    /// The reply agrees, but the reply to the `look` after it doesn't. The values are the expected state and the text
-    /// of that reply.
+    /// The reply to the call agrees, but the reply to the `look` that follows doesn't. The values are the expected
+    /// state and the text of the reply to the `look`.
     DumpDiffers(StateDump, Bytes),
-    /// The reply agrees, but the agent ended at the `look` after it. The value is the expected state.
+    /// The reply to the call agrees, but the agent ended during the `look` that followed. The value is the expected
+    /// state.
     DumpEnded(StateDump),
 }
 
@@ -68,7 +69,7 @@ impl TurnOutcome {
     ghost use Rattle.std.specs.Prelude.{◌≡◌};
     ghost use Rattle.serf_conform.specs.Session.{HasRoom, counted};
 
-    /// Adds this outcome to the counts in `tally`, which has the counts before the turn.
+    /// Returns the counts after the turn: the counts in `tally`, with this outcome added.
     pub(crate) fn counted(&self, tally: Tally) -> Tally
         requires { HasRoom tally }
         ensures { result ≡ counted self.now tally }
@@ -104,7 +105,8 @@ fn next_reply<R: Read>(alloc: Global, reader: &mut R) -> Result<Option<Vec<u8>>,
     }
 }
 
-/// The outcome of a call or a `look`, from its reply's text `text` and from `judgement`, the result of the comparison.
+/// Returns the outcome of a call or a `look`. `text` is the text of the reply, and `judgement` is the result of
+/// comparing the reply with the expected reply.
 fn outcome_by(judgement: Judgement, text: Vec<u8>) -> TurnOutcome
     ensures { result ≡ outcome_by judgement text.items }
 {
@@ -116,7 +118,7 @@ fn outcome_by(judgement: Judgement, text: Vec<u8>) -> TurnOutcome
 }
 
 /// Writes `line`, the line of a call, and compares the reply with `wanted`. `given` is the packet that the call
-/// carried, or empty.
+/// carried, and is empty if the call carried none.
 fn ask<R: Read, W: Write>(
     alloc: Global,
     pipe: &mut Pipe<R, W>,
@@ -140,8 +142,8 @@ fn ask<R: Read, W: Write>(
     Ok(outcome_by(judgement, text))
 }
 
-/// Makes the call `look`, and compares the reply by `rules` with `dump`, the state that the agent should have.
-pub(crate) fn ask_dump<R: Read, W: Write>(
+/// Makes the call `look`, and compares the reply under `rules` with `dump`, the state that the agent should have.
+pub(crate) fn call_look<R: Read, W: Write>(
     alloc: Global,
     pipe: &mut Pipe<R, W>,
     rules: Rules,
@@ -163,8 +165,8 @@ pub(crate) fn ask_dump<R: Read, W: Write>(
     Ok(outcome_by(judgement, text))
 }
 
-/// Combines the outcome of a call that agrees with `dumped`, the outcome of the `look` after it. `dump` is the state
-/// that the `look` should have shown.
+/// Combines two outcomes: that of a call whose reply agrees, and `dumped`, that of the `look` after the call. `dump` is
+/// the state that the `look` should have shown.
 fn with_dumped(dump: StateDump, dumped: TurnOutcome) -> TurnOutcome
     ensures { result ≡ with_dumped dump dumped }
 {
@@ -177,9 +179,9 @@ fn with_dumped(dump: StateDump, dumped: TurnOutcome) -> TurnOutcome
     }
 }
 
-/// Makes the call `look` if one is `due` and `outcome`, the outcome of the call before it, is `Agrees`. Returns the
-/// outcome of both.
-pub(crate) fn then_dump<R: Read, W: Write>(
+/// If the previous call's `outcome` is `Agrees` and a `look` is due, makes the call `look`, which should show the state
+/// `due`. Returns the combined outcome of the two calls, or `outcome` itself if no `look` was made.
+pub(crate) fn look_if_due<R: Read, W: Write>(
     alloc: Global,
     pipe: &mut Pipe<R, W>,
     rules: Rules,
@@ -197,12 +199,13 @@ pub(crate) fn then_dump<R: Read, W: Write>(
     if !matches!(outcome, TurnOutcome::Agrees) {
         return Ok(outcome);
     }
-    let dumped = ask_dump(alloc, pipe, rules, &dump)?;
+    let dumped = call_look(alloc, pipe, rules, &dump)?;
     Ok(with_dumped(dump, dumped))
 }
 
-/// Writes `line`, the line of a call, and compares the reply with `wanted`. Then makes the call `look` if one is `due`.
-pub(crate) fn ask_and_dump<R: Read, W: Write>(
+/// Writes `line`, the line of a call, and compares the reply with `wanted`. If the reply agrees and a `look` is due,
+/// also makes the call `look`, which should show the state `due`.
+pub(crate) fn call_and_look<R: Read, W: Write>(
     alloc: Global,
     pipe: &mut Pipe<R, W>,
     rules: Rules,
@@ -218,10 +221,10 @@ pub(crate) fn ask_and_dump<R: Read, W: Write>(
         (W.contents pipe.new.writer))) }
 {
     let outcome = ask(alloc, pipe, line, given, wanted)?;
-    then_dump(alloc, pipe, rules, due, outcome)
+    look_if_due(alloc, pipe, rules, due, outcome)
 }
 
-/// Whether `action` is an action of agent number `agent`. Allocates no memory.
+/// Returns whether `action` is an action of agent number `agent`. Allocates no memory.
 pub(crate) fn is_of(action: &Action, agent: u64) -> bool
     ensures { result ≡ is_agent agent (actor_of action.now) }
 {
@@ -231,9 +234,9 @@ pub(crate) fn is_of(action: &Action, agent: u64) -> bool
     }
 }
 
-/// The packet that `action` passes to its agent, out of `sent`, the packets that were sent before it. The packet is
-/// empty if the action is neither a delivery nor a merge. Returns `None` if the action names a packet that wasn't sent.
-/// Allocates no memory.
+/// Returns the packet in `sent` that `action` passes to its agent. `sent` contains the packets that were sent before
+/// the action. If the action is neither a delivery nor a merge, the returned packet is empty. Returns `None` if the
+/// action names a packet that isn't in `sent`. Allocates no memory.
 pub fn given_packet<'a>(action: &Action, sent: &'a [Bytes]) -> Option<&'a [u8]>
     ensures { option_copied result ≡ given_of action.now (packet_given sent.now action.now) }
 {
@@ -246,8 +249,9 @@ pub fn given_packet<'a>(action: &Action, sent: &'a [Bytes]) -> Option<&'a [u8]>
     }
 }
 
-/// Makes the call of `turn`, with the packet `given`, and compares the reply with the expected one. This follows from
-/// the turn's line and from `packets`, which the turn sent. Then makes the call `look` if one is `due`.
+/// Makes the call of `turn` with the packet `given`, and compares the reply with the expected reply. The turn's line,
+/// `given`, and `packets`, which are the packets that the turn sent, determine the expected reply. If the reply agrees
+/// and a `look` is due, also makes the call `look`, which should show the state `due`.
 fn make_call<R: Read, W: Write>(
     alloc: Global,
     pipe: &mut Pipe<R, W>,
@@ -266,13 +270,14 @@ fn make_call<R: Read, W: Write>(
     let mut call = Vec::new(alloc);
     write_call(&mut call, turn.action, given)?;
     let reply = wanted(alloc, turn.line, given, packets)?;
-    ask_and_dump(alloc, pipe, rules, due, &call, given, &reply)
+    call_and_look(alloc, pipe, rules, due, &call, given, &reply)
 }
 
-/// Takes a turn. If it is a call of the subject's agent that is compared under its rules, makes this call and compares
-/// the reply, and then makes the call `look` if one is `due`. Returns `OtherTrace` if the run has fewer packets than
-/// were sent before the turn, or too few after them for those that the turn sent.
-pub(crate) fn take_turn<R: Read, W: Write>(
+/// Takes one turn of a run. If the turn is a call to the subject's agent, and the rules allow the turn to be compared,
+/// makes the call and compares the reply. If the reply agrees and a `look` is due, also makes the call `look`, which
+/// should show the state `due`. Returns `OtherTrace` if the run has fewer packets than were sent up to the end of the
+/// turn.
+pub(crate) fn compare_turn<R: Read, W: Write>(
     alloc: Global,
     pipe: &mut Pipe<R, W>,
     subject: &Subject,
@@ -288,7 +293,7 @@ pub(crate) fn take_turn<R: Read, W: Write>(
         (turn.now.count + length turn.now.line.now.sent ≤ length turn.now.sent.now) }
 {
     let (action, line, sent, count) = (turn.action, turn.line, turn.sent, turn.count);
-    // How many packets the turn sent.
+    // The number of packets that the turn sent.
     let own = line.sent.as_slice().len();
     if count > sent.len() || own > sent.len() - count {
         return Err(ConformError::OtherTrace);

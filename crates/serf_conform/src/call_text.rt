@@ -1,4 +1,4 @@
-//! Writes the lines of calls.
+//! Writes calls as lines of text.
 ghost use Rattle.std.specs.Prelude.{◌≡◌, ◌++◌, OnOk};
 ghost use Rattle.serf_conform.specs.CallText.{call_line, open_line};
 
@@ -8,11 +8,11 @@ use serf_model::Action;
 use serf_schedule::{verb_word, write_act_words, write_config_words};
 use std::alloc::AllocError;
 
-/// Appends the line of the call `open`, which opens an agent with the settings `config` on a snapshot with the text
+/// Appends the line of the call `open`, which opens an agent with the settings `config` on a snapshot whose text is
 /// `text`.
 ///
-/// If memory for the line runs out, which is the only reason for an `AllocError`, `out` may end with a part of the
-/// line.
+/// If memory runs out, which is the only reason for an `AllocError`, only a part of the line may have been appended to
+/// `out`.
 #[tactic(auto, unfolding(crate::specs::CallText::open_line))]
 pub fn write_open(out: &mut Vec<u8>, config: &Config, text: &[u8]) -> Result<(), AllocError>
     ensures { OnOk result (out.new.items ≡ out.old.items ++ open_line config.now text.now) }
@@ -23,12 +23,12 @@ pub fn write_open(out: &mut Vec<u8>, config: &Config, text: &[u8]) -> Result<(),
     out.extend_from_slice(b"\n")
 }
 
-/// Appends the line of the call for `action`: without the agent's number, and with the packet's bytes in place of its
-/// number. `given` is the packet of a delivery or a merge. An injection isn't a call of any agent, so nothing is
-/// appended for it.
+/// Appends the line of the call for `action`. The line leaves out the agent's number, and contains the packet's bytes
+/// in place of the packet's number. `given` is the packet that a delivery or a merge carries. If `action` is an
+/// injection, which isn't a call to any agent, nothing is appended.
 ///
-/// If memory for the line runs out, which is the only reason for an `AllocError`, `out` may end with a part of the
-/// line.
+/// If memory runs out, which is the only reason for an `AllocError`, only a part of the line may have been appended to
+/// `out`.
 pub fn write_call(out: &mut Vec<u8>, action: &Action, given: &[u8]) -> Result<(), AllocError>
     ensures { OnOk result (out.new.items ≡ out.old.items ++ call_line action.now given.now) }
 {

@@ -1,5 +1,5 @@
-//! The state that the call `look` shows (clocks, minimums, and the text that the disk keeps), and whether the reply
-//! agrees with the expected state.
+//! Describes the state that the call `look` shows: the clocks, the minimums, and the text that the disk keeps. Also
+//! checks whether a reply to `look` agrees with the expected state.
 
 ghost use Rattle.std.specs.Prelude.{◌≡◌, ◌++◌, ◌∷◌, [], IfOk, OnOk};
 ghost use Rattle.std.specs.Option.{option_copied};
@@ -18,7 +18,7 @@ use serf_snapshot::read_clocks;
 use serf_wire::Bytes;
 use std::alloc::{AllocError, Global};
 
-/// The state of an agent, as its reply to the call `look` shows it.
+/// The state of an agent, as shown by its reply to the call `look`.
 #[derive(Drop)]
 pub struct StateDump {
     pub member_clock: u64,
@@ -28,11 +28,11 @@ pub struct StateDump {
     pub event_minimum: u64,
     /// The smallest Lamport time at which the agent accepts a query.
     pub query_minimum: u64,
-    /// The text of the snapshot that the agent's disk keeps.
+    /// The snapshot text that the agent's disk keeps.
     pub kept: Bytes,
 }
 
-/// The line of the call `look`.
+/// Returns the line of the call `look`.
 #[tactic(auto, unfolding(crate::specs::StateDump::dump_line))]
 pub fn dump_line() -> &'static [u8]
     ensures { result.now ≡ line_of_dump }
@@ -40,8 +40,8 @@ pub fn dump_line() -> &'static [u8]
     b"look\n"
 }
 
-/// Whether a `look` follows a call that the reference answers with `answer`. It does after a refusal, a restart or a
-/// compaction.
+/// Returns whether a `look` follows a call that the reference answers with `answer`. A `look` follows each refusal,
+/// restart or compaction.
 pub fn is_dumped_after(answer: Answer) -> bool
     ensures { result ≡ dumped_after answer }
 {
@@ -51,7 +51,8 @@ pub fn is_dumped_after(answer: Answer) -> bool
     )
 }
 
-/// The first line, without its newline, of the reply to `look` from an agent in the state `dump`.
+/// Returns the answer that an agent in the state `dump` should return to `look`: the first line of the reply, without
+/// its newline.
 #[tactic(auto, unfolding(crate::specs::StateDump::dump_answer))]
 fn answer_of(alloc: Global, dump: &StateDump) -> Result<Vec<u8>, AllocError>
     ensures { IfOk result (λ answer. answer.items ≡ dump_answer dump.now) }
@@ -65,8 +66,8 @@ fn answer_of(alloc: Global, dump: &StateDump) -> Result<Vec<u8>, AllocError>
     Ok(out)
 }
 
-/// The expected reply to the call `look` from an agent in the state `dump`. Returns an `AllocError` only if memory runs
-/// out.
+/// Returns the reply to the call `look` that is expected of an agent in the state `dump`. Returns an `AllocError` only
+/// if memory runs out.
 pub fn dump_reply(alloc: Global, dump: &StateDump) -> Result<Reply, AllocError>
     ensures { IfOk result (λ reply. said_in reply ≡ dump_said dump.now) }
 {
@@ -77,7 +78,7 @@ pub fn dump_reply(alloc: Global, dump: &StateDump) -> Result<Reply, AllocError>
     Ok(Reply { answer, lines })
 }
 
-/// Whether the same three clocks are read from `one` and from `other`, the texts of two snapshots.
+/// Returns whether reading the snapshot texts `one` and `other` results in the same three clocks.
 fn have_same_clocks(one: &[u8], other: &[u8]) -> bool
     ensures { result ≡ same_clocks one.now other.now }
 {
@@ -88,8 +89,8 @@ fn have_same_clocks(one: &[u8], other: &[u8]) -> bool
         && wanted.query_clock == got.query_clock
 }
 
-/// Whether `got`, the text that a disk keeps, agrees with `wanted`. Under Serf's rules only the clocks in them have to
-/// be equal, and otherwise all bytes.
+/// Returns whether `got`, the text that a disk keeps, agrees with the expected text `wanted`. Under Serf's rules, only
+/// the clocks in the two texts have to be equal. Under the rules `Own`, all bytes of the two texts have to be equal.
 fn is_kept_alike(rules: Rules, wanted: &[u8], got: &[u8]) -> bool
     ensures { result ≡ kept_alike (is_serf rules) wanted.now got.now }
 {
@@ -100,8 +101,8 @@ fn is_kept_alike(rules: Rules, wanted: &[u8], got: &[u8]) -> bool
     }
 }
 
-/// The text of the `kept` line in `lines`, the lines of a reply after its answer. Returns `None` unless this is the
-/// only line.
+/// Returns the text of the `kept` line in `lines`, which are the lines that follow a reply's answer. Returns `None`
+/// unless `lines` consists of a single `kept` line.
 fn only_kept(lines: &[ReplyLine]) -> Option<&[u8]>
     ensures { option_copied result ≡ only_kept lines.now }
 {
@@ -111,8 +112,8 @@ fn only_kept(lines: &[ReplyLine]) -> Option<&[u8]>
     }
 }
 
-/// Whether the reply `got` shows the clocks and the minimums of `dump`, and a kept text that agrees with that of
-/// `dump`.
+/// Returns whether the reply `got` shows the clocks and the minimums in `dump`, and a kept text that agrees with the
+/// one in `dump`.
 fn is_wanted_dump(
     alloc: Global,
     rules: Rules,
@@ -133,11 +134,11 @@ fn is_wanted_dump(
 }
 
 /// Compares `text`, a reply to the call `look`, with `dump`, the state that the agent should have. The clocks, the
-/// minimums and the bytes of the text that the disk keeps have to be equal. Under Serf's rules, only the clocks in that
-/// text count ([`serf_snapshot::read_clocks`]).
+/// minimums, and the text that the disk keeps have to be equal. Under Serf's rules, the function compares only the
+/// clocks in the kept text ([`serf_snapshot::read_clocks`]), and not all its bytes.
 ///
-/// A reply that can't be read differs. Returns an `AllocError` only if there is no memory to read or to compare the
-/// reply.
+/// If the reply can't be read, the result is `Differs`. Returns an `AllocError` only if there isn't enough memory to
+/// read the reply or to compare it.
 pub fn judge_dump(
     alloc: Global,
     rules: Rules,

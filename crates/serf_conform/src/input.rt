@@ -7,10 +7,10 @@ use std::alloc::Global;
 use std::io::Read;
 use thiserror::Error;
 
-/// The maximum length in bytes of all lines of a reply together, with their newlines.
+/// The maximum length of a reply in bytes, counting all its lines and their newlines.
 pub const MAX_REPLY_BYTES: usize = 67_108_864;
 
-/// Why a reply was not read to its end.
+/// The reason why a reply was not read to its end.
 #[derive(Clone, Copy, Debug, Drop, Error, PartialEq, Eq)]
 pub enum ReadError {
     /// A read failed.
@@ -19,21 +19,21 @@ pub enum ReadError {
     /// The input ended before the empty line that ends a reply.
     #[error("the agent has ended")]
     Ended,
-    /// The reply has more than 67,108,864 bytes.
+    /// The reply is longer than 67,108,864 bytes.
     #[error("the reply is too long")]
     TooLong,
     #[error("out of memory")]
     OutOfMemory,
 }
 
-/// Reads the lines of the next reply, each with its newline. It reads these lines and the empty line after them, and no
-/// more.
+/// Reads the next reply, and returns its lines, each with its newline. The function reads up to the end of the empty
+/// line that ends the reply, and no further.
 ///
-/// A line with only a carriage return ends a reply too. The carriage return is then the last byte of the text. Without
-/// this rule, a reply would never end if an agent ends its lines with a carriage return and a newline, because none of
-/// its lines would be empty.
+/// A line that contains only a carriage return also ends a reply. In this case, the carriage return is the last byte of
+/// the text. Without this rule, if an agent ended its lines with a carriage return and a newline, its replies would
+/// never end, because none of their lines would be empty.
 ///
-/// If a read returns no bytes, the input has ended. After an error, a part of a reply may have been read.
+/// If a read returns no bytes, the input has ended. If the function returns an error, it may have read part of a reply.
 pub fn read_reply_text<R: Read>(alloc: Global, reader: &mut R) -> Result<Vec<u8>, ReadError>
     ensures text { IfOk result (λ text.
         ReadsReply (R.remaining reader.old) (R.remaining reader.new) text.items) }
@@ -44,7 +44,8 @@ pub fn read_reply_text<R: Read>(alloc: Global, reader: &mut R) -> Result<Vec<u8>
     ensures short { IfOk result (λ text. length text.items ≤ longest_reply) }
 {
     let mut text = Vec::new(alloc);
-    // Whether the next byte begins a line, and whether the line so far is only a carriage return.
+    // `begins` is true if the next byte begins a line. `is_return` is true if the line so far is only a carriage
+    // return.
     let mut begins = true;
     let mut is_return = false;
     let mut byte = [0u8; 1];

@@ -8,18 +8,18 @@ use crate::meaning::reply_means;
 use crate::reply::{Reply, ReplyError, read_reply};
 use std::alloc::{AllocError, Global};
 
-/// How a reply compares with the expected one.
+/// The result of comparing a reply with the expected reply.
 #[derive(Clone, Copy, PartialEq, Eq)]
 pub enum Judgement {
-    /// The reply means the same as the expected one.
+    /// The reply means the same as the expected reply.
     Agrees,
-    /// The reply doesn't mean the same as the expected one, or can't be read.
+    /// The reply can't be read, or doesn't mean the same as the expected reply.
     Differs,
-    /// The reply is `unsupported`: the agent has no such call.
+    /// The reply is `unsupported`, which means that the agent doesn't support the call.
     Unsupported,
 }
 
-/// Whether `reply` is `unsupported`: the agent has no such call.
+/// Returns whether `reply` is `unsupported`, which means that the agent doesn't support the call.
 pub(crate) fn says_unsupported(reply: &Reply) -> bool
     ensures { result ≡ is_unsupported (said_in reply.now) }
 {
@@ -27,10 +27,10 @@ pub(crate) fn says_unsupported(reply: &Reply) -> bool
 }
 
 /// Compares `text`, the text of a reply, with the expected reply `wanted`. `given` is the packet that the call carried,
-/// or empty.
+/// and is empty if the call carried none.
 ///
-/// A reply that can't be read differs. Returns an `AllocError` only if there is no memory to read or to compare the
-/// reply.
+/// If the reply can't be read, the result is `Differs`. Returns an `AllocError` only if there isn't enough memory to
+/// read the reply or to compare it.
 pub fn judge(
     alloc: Global,
     given: &[u8],

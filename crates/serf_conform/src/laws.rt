@@ -1,5 +1,5 @@
-//! Why agents can be compared one at a time. This is a law: the clause of a function that does nothing, so that code
-//! learns it by calling the function.
+//! States the law that allows agents to be compared one at a time. The law is stated as the clause of a function that
+//! does nothing. Calling the function states the clause for the prover.
 
 ghost use Rattle.std.specs.Prelude.{◌≡◌, ℕ, List, Some, slice_get};
 ghost use Rattle.serf_agent.specs.declared.config.Config.{Config};
@@ -11,16 +11,16 @@ ghost use Rattle.serf_model.specs.Trace.{turns_by, turns_of};
 
 use serf_model::{agents_alone, turns_shown};
 
-/// Nothing is lost if agents are compared one at a time: in the trace of a run, the turns of an agent are exactly the
-/// turns that this agent takes alone when it gets the same calls, with the bytes of each packet in place of its number.
-/// The function does nothing.
+/// States that nothing is lost when agents are compared one at a time. In the trace of a run, each agent takes exactly
+/// the turns that it would take if it were alone and got the same calls, with the bytes of each packet in place of the
+/// packet's number. The function itself does nothing.
 pub fn projection()
     ensures { (configs : List Config) (actions : List Action) (a : ℕ) (config : Config)
         (m : IdealNode) → AreConfigs configs → slice_get configs a ≡ Some config
         → slice_get (run_of configs actions).cluster.nodes a ≡ Some m
         → IsAlone config a (turns_by a (turns_of actions (trace_of (run_of configs actions)))) m }
 {
-    // In a run, each agent takes exactly the turns that it would take alone, and a trace shows the turns of its run.
+    // In a run, each agent takes exactly the turns that it would take alone, and the trace shows the turns of the run.
     agents_alone();
     turns_shown();
 }

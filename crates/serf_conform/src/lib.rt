@@ -1,8 +1,9 @@
-//! Compares any agent with the reference: makes calls of the agent, compares each reply with the reference's, and
-//! returns a verdict. Calls and replies go through the pipe, as lines of text (docs/SPEC.md, "The pipe").
+//! Compares any agent with the reference: makes calls to the agent, compares each reply with the reference's reply, and
+//! returns a verdict. Calls and replies pass through the pipe as lines of text (docs/SPEC.md, "The pipe").
 //!
-//! It also searches for calls at which an agent differs, by running schedules from seeds, one after another. The calls
-//! at which an agent fails are then shortened: sublists of them are tried until no single call can be left out.
+//! The crate also searches for calls on which an agent differs from the reference: it takes one seed after another,
+//! makes the schedule of that seed, and compares the schedule's agents with the reference. To shorten the list of calls
+//! on which an agent fails, the crate tries sublists until no single call can be left out.
 #![tactic(auto)]
 
 mod agent_calls;
@@ -13,6 +14,7 @@ mod input;
 mod judging;
 mod laws;
 mod meaning;
+mod missing;
 mod put;
 mod replies;
 mod reply;
@@ -36,6 +38,7 @@ pub use input::{MAX_REPLY_BYTES, ReadError, read_reply_text};
 pub use judging::{Judgement, judge};
 pub use laws::projection;
 pub use meaning::{line_means, reply_means};
+pub use missing::{MissingCalls, without};
 pub use replies::{opening, wanted};
 pub use reply::{Reply, ReplyError, read_reply};
 pub use reply_line::{ReplyLine, read_reply_line};

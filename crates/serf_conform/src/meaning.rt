@@ -1,5 +1,5 @@
-//! Whether a reply means the same as the expected one. Packets are compared by what they mean, and everything else by
-//! its bytes.
+//! Checks whether a reply means the same as the expected reply. Packets are compared by the messages that they spell,
+//! and everything else is compared byte by byte.
 
 ghost use Rattle.std.specs.Prelude.{◌≡◌, ◌++◌, IfOk, OnOk};
 ghost use Rattle.std.specs.List.{flat_map};
@@ -19,8 +19,9 @@ use serf_text::{write_members, write_message, write_number_line, write_slot};
 use serf_wire::{Message, PushPull, SlotView, SlotViews, decode};
 use std::alloc::{AllocError, Global};
 
-/// Appends the lines of `slot`, a slot of a state, with 0 in place of its number. Appends nothing if the slot is empty.
-fn write_held(out: &mut Vec<u8>, slot: &SlotView) -> Result<(), AllocError>
+/// Appends the lines of `slot`, a slot of a state, with 0 in place of the slot's number. If the slot is empty, appends
+/// nothing.
+fn write_full_slot(out: &mut Vec<u8>, slot: &SlotView) -> Result<(), AllocError>
     ensures { OnOk result (out.new.items ≡ out.old.items ++ held_lines (slot_of_view slot.now)) }
 {
     match slot {
@@ -29,18 +30,19 @@ fn write_held(out: &mut Vec<u8>, slot: &SlotView) -> Result<(), AllocError>
     }
 }
 
-/// Appends the lines of all `slots` that aren't empty, each with the number 0.
-fn write_held_slots(out: &mut Vec<u8>, slots: SlotViews) -> Result<(), AllocError>
+/// Appends the lines of each slot in `slots` that isn't empty, with 0 in place of the slot's number.
+fn write_full_slots(out: &mut Vec<u8>, slots: SlotViews) -> Result<(), AllocError>
     ensures { OnOk result (out.new.items ≡ out.old.items
         ++ flat_map held_lines (slots_left slots.entry)) }
 {
     for slot in slots {
-        write_held(out, &slot)?;
+        write_full_slot(out, &slot)?;
     }
     Ok(())
 }
 
-/// Appends the text of `state` without its empty slots, and with the number 0 for every other slot.
+/// Appends the text of `state`, but leaves out the empty slots, and writes 0 in place of the number of every other
+/// slot.
 #[tactic(auto, unfolding(crate::specs::Meaning::state_lines))]
 fn write_state(out: &mut Vec<u8>, state: &PushPull) -> Result<(), AllocError>
     ensures { OnOk result (out.new.items ≡ out.old.items ++ state_lines state.now.member_clock
@@ -49,11 +51,12 @@ fn write_state(out: &mut Vec<u8>, state: &PushPull) -> Result<(), AllocError>
 {
     write_members(out, state)?;
     write_number_line(out, b"EventLTime", state.event_clock)?;
-    write_held_slots(out, state.slots)?;
+    write_full_slots(out, state.slots)?;
     write_number_line(out, b"QueryLTime", state.query_clock)
 }
 
-/// Appends the meaning of `message`: the text of its fields, without the empty slots of a state.
+/// Appends the meaning of `message`, which is the text of its fields. If the message is a state, the text leaves out
+/// the empty slots.
 fn write_meaning(out: &mut Vec<u8>, message: &Message) -> Result<(), AllocError>
     ensures { OnOk result (out.new.items ≡ out.old.items ++ meaning_text (message_of message.now)) }
 {
@@ -63,7 +66,8 @@ fn write_meaning(out: &mut Vec<u8>, message: &Message) -> Result<(), AllocError>
     }
 }
 
-/// The meaning of the message that `packet` spells ([`write_meaning`]), or `None` if it doesn't spell one.
+/// Returns the meaning of the message that `packet` spells ([`write_meaning`]), or `None` if the packet doesn't spell a
+/// message.
 fn meaning(alloc: Global, packet: &[u8]) -> Result<Option<Vec<u8>>, AllocError>
     ensures { IfOk result (λ found. option_map (λ v. v.items) found
         ≡ meaning_of (decoded packet.now)) }
@@ -78,15 +82,15 @@ fn meaning(alloc: Global, packet: &[u8]) -> Result<Option<Vec<u8>>, AllocError>
     }
 }
 
-/// Whether `one` and `other` have the same bytes.
+/// Returns whether `one` and `other` contain the same bytes.
 fn is_equal(one: &[u8], other: &[u8]) -> bool
     ensures { result ≡ bytes_eq one.now other.now }
 {
     one == other
 }
 
-/// Whether the packets `one` and `other` spell messages with the same meaning.
-fn spell_one(alloc: Global, one: &[u8], other: &[u8]) -> Result<bool, AllocError>
+/// Returns whether the packets `one` and `other` spell messages with the same meaning.
+fn have_same_meaning(alloc: Global, one: &[u8], other: &[u8]) -> Result<bool, AllocError>
     ensures { IfOk result (λ b. b ≡ spell_same one.now other.now) }
 {
     let Some(wanted) = meaning(alloc, one)? else {
@@ -98,8 +102,8 @@ fn spell_one(alloc: Global, one: &[u8], other: &[u8]) -> Result<bool, AllocError
     Ok(is_equal(&wanted, &got))
 }
 
-/// Whether the packet `got` agrees with the expected packet `wanted`. If `wanted` equals `given`, both have to be equal
-/// byte for byte, and otherwise their meanings have to be equal.
+/// Returns whether the packet `got` agrees with the expected packet `wanted`. If `wanted` equals `given`, then `got`
+/// has to equal `wanted` byte for byte. Otherwise, the messages in `wanted` and `got` have to mean the same.
 fn is_wanted_packet(
     alloc: Global,
     given: &[u8],
@@ -111,10 +115,10 @@ fn is_wanted_packet(
     if is_equal(wanted, given) {
         return Ok(is_equal(wanted, got));
     }
-    spell_one(alloc, wanted, got)
+    have_same_meaning(alloc, wanted, got)
 }
 
-/// The text of `line`, without a newline.
+/// Returns the text of `line`, without a newline.
 fn line_text(alloc: Global, line: &ReplyLine) -> Result<Vec<u8>, AllocError>
     ensures { IfOk result (λ text. text.items ≡ text_of line.now) }
 {
@@ -123,13 +127,13 @@ fn line_text(alloc: Global, line: &ReplyLine) -> Result<Vec<u8>, AllocError>
     Ok(out)
 }
 
-/// Whether `got`, a line of a reply, means the same as the expected line `wanted`. `given` is the packet that the call
-/// carried, or empty.
+/// Returns whether `got`, a line of a reply, means the same as the expected line `wanted`. `given` is the packet that
+/// the call carried, and is empty if the call carried none.
 ///
-/// If `wanted` has the packet `given`, the agent sent this packet on, and `got` has to have exactly its bytes. Any
-/// other packet has to spell a message with equal fields, apart from the empty slots of a state, which don't count. Any
-/// other line has to have equal values. Returns an `AllocError` only if there is no memory for the texts that are
-/// compared.
+/// If the packet in `wanted` is `given`, the agent passed this packet on, so `got` has to contain exactly the same
+/// bytes. If `wanted` contains any other packet, the packet in `got` has to spell a message with equal fields, apart
+/// from the empty slots of a state. In a line without a packet, all values have to be equal. Returns an `AllocError`
+/// only if there isn't enough memory for the texts that are compared.
 pub fn line_means(
     alloc: Global,
     given: &[u8],
@@ -153,8 +157,8 @@ pub fn line_means(
     }
 }
 
-/// Whether `got` has as many lines as `wanted`, and each means the same as the line in the same position
-/// ([`line_means`]).
+/// Returns whether `got` has as many lines as `wanted`, and each line in `got` means the same as the line in the same
+/// position in `wanted` ([`line_means`]).
 fn lines_agree(
     alloc: Global,
     given: &[u8],
@@ -182,11 +186,11 @@ fn lines_agree(
     }
 }
 
-/// Whether the reply `got` means the same as the expected reply `wanted`. Their answers have to be equal, `got` needs
-/// as many lines as `wanted`, and each line has to mean the same as the line in the same position ([`line_means`]).
-/// `given` is the packet that the call carried, or empty.
+/// Returns whether the reply `got` means the same as the expected reply `wanted`. The two replies have to have equal
+/// answers and the same number of lines, and the lines in each position have to mean the same ([`line_means`]). `given`
+/// is the packet that the call carried, and is empty if the call carried none.
 ///
-/// Returns an `AllocError` only if there is no memory for the texts that are compared.
+/// Returns an `AllocError` only if there isn't enough memory for the texts that are compared.
 pub fn reply_means(
     alloc: Global,
     given: &[u8],

@@ -1,4 +1,4 @@
-//! Appends words of calls and replies, each with a space before it.
+//! Appends the words of calls and replies, each with a space before it.
 ghost use Rattle.std.specs.Prelude.{◌≡◌, ◌++◌, OnOk};
 ghost use Rattle.serf_conform.specs.CallText.{flag_word, hex_word, moment_words, number_word, texts_words};
 
@@ -23,7 +23,7 @@ pub(crate) fn write_hex_word(out: &mut Vec<u8>, bytes: &[u8]) -> Result<(), Allo
     write_hex(out, bytes)
 }
 
-/// Appends a space, and then `1` if `value` is true and `0` if it is false.
+/// Appends a space, and then `1` if `value` is true or `0` if `value` is false.
 #[tactic(auto, unfolding(crate::specs::CallText::flag_word))]
 pub(crate) fn write_flag_word(out: &mut Vec<u8>, value: bool) -> Result<(), AllocError>
     ensures { OnOk result (out.new.items ≡ out.old.items ++ flag_word value) }

@@ -1,4 +1,4 @@
-//! The replies of the reference, which the agent under test is expected to return too.
+//! Makes the replies of the reference, which the agent under test is expected to return too.
 
 ghost use Rattle.std.specs.Prelude.{◌≡◌, ◌++◌, IfOk, OnOk, map};
 ghost use Rattle.std.specs.Option.{option_to_list};
@@ -14,8 +14,8 @@ use serf_schedule::write_answer;
 use serf_wire::{Bytes, Message, decode};
 use std::alloc::{AllocError, Global};
 
-/// Adds the `counted ack` line for the ack in the packet `given`. Adds nothing if the packet is neither an ack nor a
-/// response.
+/// Adds the `counted ack` line for the ack in the packet `given`. If the packet is neither an ack nor a response, adds
+/// nothing.
 fn add_ack(alloc: Global, lines: &mut Vec<ReplyLine>, given: &[u8]) -> Result<(), AllocError>
     ensures { OnOk result (lines.new.items ≡ lines.old.items ++ ack_of (decoded given.now)) }
 {
@@ -30,8 +30,8 @@ fn add_ack(alloc: Global, lines: &mut Vec<ReplyLine>, given: &[u8]) -> Result<()
     }
 }
 
-/// Adds the `counted response` line for the response in the packet `given`. Adds nothing if the packet is neither an
-/// ack nor a response.
+/// Adds the `counted response` line for the response in the packet `given`. If the packet is neither an ack nor a
+/// response, adds nothing.
 fn add_response(alloc: Global, lines: &mut Vec<ReplyLine>, given: &[u8]) -> Result<(), AllocError>
     ensures { OnOk result (lines.new.items ≡ lines.old.items ++ response_of (decoded given.now)) }
 {
@@ -52,8 +52,8 @@ fn add_response(alloc: Global, lines: &mut Vec<ReplyLine>, given: &[u8]) -> Resu
     }
 }
 
-/// Adds the `counted` line for the packet `given` if `answer` is `Ack` or `Response`, which means that the packet was
-/// counted.
+/// If `answer` is `Ack` or `Response`, the packet `given` was counted, and the function adds the `counted` line for the
+/// packet.
 fn add_counted(
     alloc: Global,
     lines: &mut Vec<ReplyLine>,
@@ -69,7 +69,7 @@ fn add_counted(
     }
 }
 
-/// Adds a `sent` line for each of `packets`.
+/// Adds a `sent` line for each packet in `packets`.
 fn add_sent(alloc: Global, lines: &mut Vec<ReplyLine>, packets: &[Bytes]) -> Result<(), AllocError>
     ensures { OnOk result (lines.new.items ≡ lines.old.items ++ map (λ p. Sent p) packets.now) }
 {
@@ -80,7 +80,7 @@ fn add_sent(alloc: Global, lines: &mut Vec<ReplyLine>, packets: &[Bytes]) -> Res
     Ok(())
 }
 
-/// The `event` line for `event`, which was handed out.
+/// Returns the `event` line for an event that was handed out.
 fn event_line(alloc: Global, event: &EventLine) -> Result<ReplyLine, AllocError>
     ensures { IfOk result (λ line. line ≡ event_said event.now) }
 {
@@ -94,7 +94,7 @@ fn event_line(alloc: Global, event: &EventLine) -> Result<ReplyLine, AllocError>
     })
 }
 
-/// Adds an `event` line for each of `events`, which were handed out.
+/// Adds an `event` line for each event in `events`, the events that were handed out.
 fn add_events(
     alloc: Global,
     lines: &mut Vec<ReplyLine>,
@@ -108,7 +108,7 @@ fn add_events(
     Ok(())
 }
 
-/// The `handed` line for `query`, which was handed out.
+/// Returns the `handed` line for a query that was handed out.
 fn handed_line(alloc: Global, query: &QueryLine) -> Result<ReplyLine, AllocError>
     ensures { IfOk result (λ line. line ≡ handed_said query.now) }
 {
@@ -123,7 +123,7 @@ fn handed_line(alloc: Global, query: &QueryLine) -> Result<ReplyLine, AllocError
     })
 }
 
-/// Adds the `handed` line for `handed`, the query that was handed out. Adds nothing if there is none.
+/// If a query was handed out, adds the `handed` line for that query.
 fn add_handed(
     alloc: Global,
     lines: &mut Vec<ReplyLine>,
@@ -141,11 +141,11 @@ fn add_handed(
     }
 }
 
-/// The reference's reply to a call. `line` is the action's line in the trace, and `packets` are the packets that the
-/// action sent. `given` is the packet of a delivery or a merge.
+/// Returns the reference's reply to a call. `line` is the action's line in the trace, and `packets` are the packets
+/// that the action sent. `given` is the packet that a delivery or a merge carries.
 ///
-/// If an ack or a response was counted, the reply also has a line with its values, which are read from `given`. Returns
-/// an `AllocError` only if there is no memory for the reply.
+/// If an ack or a response was counted, the reply also contains a line with the values of the ack or response, which
+/// the function reads from `given`. Returns an `AllocError` only if there isn't enough memory for the reply.
 pub fn wanted(
     alloc: Global,
     line: &Line,
@@ -166,8 +166,8 @@ pub fn wanted(
     Ok(Reply { answer, lines })
 }
 
-/// The reply of an agent that was opened on an empty snapshot: its three clocks are 1. Returns an `AllocError` only if
-/// there is no memory for the reply.
+/// Returns the reply that is expected of an agent that was opened on an empty snapshot: all three clocks are 1. Returns
+/// an `AllocError` only if there isn't enough memory for the reply.
 pub fn opening(alloc: Global) -> Result<Reply, AllocError>
     ensures { IfOk result (λ reply. said_in reply ≡ opening_of) }
 {

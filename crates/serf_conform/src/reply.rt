@@ -14,16 +14,17 @@ use thiserror::Error;
 /// An agent's reply to a call, either received or expected.
 #[derive(Drop)]
 pub struct Reply {
-    /// The first line, unchanged, without its newline.
+    /// The first line of the reply, unchanged but without its newline.
     pub answer: Bytes,
-    /// The contents of the lines after it, in order.
+    /// The contents of the lines after the first, in order.
     pub lines: Vec<ReplyLine>,
 }
 
-/// Why a reply can't be read.
+/// The reason why a reply can't be read.
 #[derive(Clone, Copy, Debug, Drop, Error, PartialEq, Eq)]
 pub enum ReplyError {
-    /// The number of the first line that can't be read, counted from 1, and what is wrong with it.
+    /// A line can't be read. The values are the number of the first line that can't be read, counted from 1, and the
+    /// cause of the error.
     #[error("line {line} of the reply can't be read: {cause}")]
     BadLine { line: u64, cause: Cause },
     #[error("out of memory")]
@@ -42,7 +43,8 @@ fn add_line(alloc: Global, lines: &mut Vec<ReplyLine>, line: &[u8]) -> Result<()
     lines.push(said).map_err(|_| LineError::OutOfMemory)
 }
 
-/// Reads the lines of `text`, the part of a reply after its answer. The first of them is line 2 of the reply.
+/// Reads the lines of `text`, the part of a reply that follows the answer. The first line of `text` is line 2 of the
+/// reply.
 fn read_lines(alloc: Global, text: &[u8]) -> Result<Vec<ReplyLine>, ReplyError>
     ensures { ReadsLines result (after_lines 2 [] (slice_split (λ b. b == 10) text.now)) }
 {
@@ -66,11 +68,11 @@ fn read_lines(alloc: Global, text: &[u8]) -> Result<Vec<ReplyLine>, ReplyError>
     }
 }
 
-/// Reads the reply in `text`, or returns its first line that can't be read.
+/// Reads the reply in `text`. The error `BadLine` contains the number of the first line that can't be read.
 ///
-/// The text is split at newlines. The first line is the answer, which may have any bytes but must not be empty. Empty
-/// lines after it are skipped. In the text that [`crate::read_reply_text`] returns, only the line at the end is empty.
-/// If a later line can't be read, the result may still be `OutOfMemory`.
+/// The function splits the text at newlines. The first line is the answer, which may contain any bytes but must not be
+/// empty. Empty lines after the answer are skipped. In a text from [`crate::read_reply_text`], only the last line is
+/// empty. If memory runs out before the function reaches a bad line, the error is `OutOfMemory`.
 pub fn read_reply(alloc: Global, text: &[u8]) -> Result<Reply, ReplyError>
     ensures { Reads result (reply_of text.now) }
 {

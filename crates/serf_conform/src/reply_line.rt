@@ -1,4 +1,4 @@
-//! Reads one line of a reply after its answer.
+//! Reads one of the lines that follow the answer in a reply.
 
 ghost use Rattle.std.specs.Prelude.{◌≡◌, ◌==◌, ◌≤◌, length, map};
 ghost use Rattle.serf_text.specs.Gives.{Gives};
@@ -6,7 +6,8 @@ ghost use Rattle.serf_text.specs.Words.{words_of, word_at};
 ghost use Rattle.serf_conform.specs.Reply.{counted_ack_of, counted_kind, counted_response_of, counted_words, count_of, event_of, handed_of, kind_of, line_of, of_kind};
 
 use serf_text::{
-    Cause, LineError, bytes_at, choice_at, is_word, number_at, number_from_to, take_words, word_at,
+    Cause, LineError, bytes_at, choice_at, is_word, number_at, number_from_to, split_words_into,
+    word_at,
 };
 use serf_wire::Bytes;
 use std::alloc::Global;
@@ -14,53 +15,53 @@ use std::alloc::Global;
 /// The largest Lamport time.
 const MAX_TIME: u64 = u64::MAX - 1;
 
-/// The largest ID of a query.
+/// The largest query ID.
 const MAX_ID: u64 = u32::MAX as u64;
 
-/// The contents of a line of a reply. Times are Lamport times, which are below 2^64 - 1.
+/// The contents of a line in a reply. All times are Lamport times, which are less than 2^64 - 1.
 #[derive(Drop)]
 pub enum ReplyLine {
-    /// This packet was sent.
+    /// The agent sent this packet.
     Sent(Bytes),
-    /// An event was handed out.
+    /// The agent handed out an event.
     Event {
         time: u64,
         name: Bytes,
         payload: Bytes,
-        /// Whether the event may be coalesced with others of its name.
+        /// Whether the event may be coalesced with other events of the same name.
         coalesce: bool,
     },
-    /// A query was handed out.
+    /// The agent handed out a query.
     DeliveredQuery {
-        /// How many queries the agent handed out before this one in this life.
+        /// The number of queries that the agent handed out between its last opening and this query.
         index: u64,
         time: u64,
-        /// Below 2^32.
+        /// The query's ID, which is less than 2^32.
         id: u64,
         name: Bytes,
         payload: Bytes,
     },
-    /// This ack was counted. The fields are the query's time and ID, and the node that acked.
+    /// The agent counted this ack. The fields are the query's time and ID, and the node that sent the ack.
     CountedAck {
         time: u64,
-        /// Below 2^32.
+        /// The query's ID, which is less than 2^32.
         id: u64,
         from: Bytes,
     },
-    /// This response was counted. The fields are the query's time and ID, the node that responded, and the payload of
-    /// its response.
+    /// The agent counted this response. The fields are the query's time and ID, the node that responded, and the
+    /// payload of the response.
     CountedResponse {
         time: u64,
-        /// Below 2^32.
+        /// The query's ID, which is less than 2^32.
         id: u64,
         from: Bytes,
         payload: Bytes,
     },
-    /// The disk keeps this text.
+    /// The agent's disk keeps this text.
     Kept(Bytes),
 }
 
-/// The kind of a line, with one value for each variant of [`ReplyLine`].
+/// The kind of a line in a reply, with one value for each variant of [`ReplyLine`].
 #[derive(Clone, Copy, PartialEq, Eq)]
 pub(crate) enum LineKind {
     Sent,
@@ -71,7 +72,8 @@ pub(crate) enum LineKind {
     Kept,
 }
 
-/// The kind of a `counted` line whose second word is `word`, or `None` if this word is neither `ack` nor `response`.
+/// Returns the kind of a `counted` line whose second word is `word`, or `None` if `word` is neither `ack` nor
+/// `response`.
 fn counted(word: &[u8]) -> Option<LineKind>
     ensures { result ≡ counted_kind word.now }
 {
@@ -84,7 +86,8 @@ fn counted(word: &[u8]) -> Option<LineKind>
     }
 }
 
-/// The kind of a line whose first two words are `first` and `second`, or `None` if no line begins with them.
+/// Returns the kind of a line whose first two words are `first` and `second`, or `None` if no kind of line begins with
+/// these two words.
 fn kind(first: &[u8], second: &[u8]) -> Option<LineKind>
     ensures { result ≡ kind_of first.now second.now }
 {
@@ -104,7 +107,7 @@ fn kind(first: &[u8], second: &[u8]) -> Option<LineKind>
 }
 
 impl LineKind {
-    /// How many words a line of this kind has.
+    /// Returns the number of words in a line of this kind.
     fn count(self) -> usize
         ensures { result ≡ count_of self }
     {
@@ -116,7 +119,7 @@ impl LineKind {
     }
 }
 
-/// Reads an event from `words`, the five words of an `event` line. Word 1 is `event`.
+/// Reads an event from `words`, the five words of an `event` line. Word 1 is the word `event`.
 #[tactic(auto, unfolding(crate::specs::Reply::event_of))]
 fn event(alloc: Global, words: &[&[u8]]) -> Result<ReplyLine, LineError>
     ensures { Gives (λ l. l) result (event_of (map (λ w. w.now) words.now)) }
@@ -133,7 +136,7 @@ fn event(alloc: Global, words: &[&[u8]]) -> Result<ReplyLine, LineError>
     })
 }
 
-/// Reads a query from `words`, the six words of a `handed` line. Word 1 is `handed`.
+/// Reads a query from `words`, the six words of a `handed` line. Word 1 is the word `handed`.
 #[tactic(auto, unfolding(crate::specs::Reply::handed_of))]
 fn handed(alloc: Global, words: &[&[u8]]) -> Result<ReplyLine, LineError>
     ensures { Gives (λ l. l) result (handed_of (map (λ w. w.now) words.now)) }
@@ -152,7 +155,7 @@ fn handed(alloc: Global, words: &[&[u8]]) -> Result<ReplyLine, LineError>
     })
 }
 
-/// Reads an ack from `words`, the five words of a `counted ack` line. Words 1 and 2 are `counted` and `ack`.
+/// Reads an ack from `words`, the five words of a `counted ack` line. Words 1 and 2 are the words `counted` and `ack`.
 #[tactic(auto, unfolding(crate::specs::Reply::counted_ack_of))]
 fn counted_ack(alloc: Global, words: &[&[u8]]) -> Result<ReplyLine, LineError>
     ensures { Gives (λ l. l) result (counted_ack_of (map (λ w. w.now) words.now)) }
@@ -163,7 +166,7 @@ fn counted_ack(alloc: Global, words: &[&[u8]]) -> Result<ReplyLine, LineError>
     Ok(ReplyLine::CountedAck { time, id, from })
 }
 
-/// Reads a response from `words`, the six words of a `counted response` line. Words 1 and 2 are `counted` and
+/// Reads a response from `words`, the six words of a `counted response` line. Words 1 and 2 are the words `counted` and
 /// `response`.
 #[tactic(auto, unfolding(crate::specs::Reply::counted_response_of))]
 fn counted_response(alloc: Global, words: &[&[u8]]) -> Result<ReplyLine, LineError>
@@ -181,7 +184,8 @@ fn counted_response(alloc: Global, words: &[&[u8]]) -> Result<ReplyLine, LineErr
     })
 }
 
-/// Reads a line of the kind `kind` from `words`, its words. Their number is [`LineKind::count`].
+/// Reads a line of the kind `kind` from `words`, the words of the line. There have to be as many words as
+/// [`LineKind::count`] returns for this kind.
 #[tactic(auto, unfolding(crate::specs::Reply::sent_of, crate::specs::Reply::kept_of))]
 fn line_of_kind(alloc: Global, kind: LineKind, words: &[&[u8]]) -> Result<ReplyLine, LineError>
     ensures { Gives (λ l. l) result (of_kind kind (map (λ w. w.now) words.now)) }
@@ -196,7 +200,7 @@ fn line_of_kind(alloc: Global, kind: LineKind, words: &[&[u8]]) -> Result<ReplyL
     }
 }
 
-/// Reads a line after a reply's answer from `words`, its words.
+/// Reads a line from `words`, the words of one of the lines that follow a reply's answer.
 fn line_in(alloc: Global, words: &[&[u8]]) -> Result<ReplyLine, LineError>
     ensures { Gives (λ l. l) result (counted_words
         (kind_of (word_at 1 (map (λ w. w.now) words.now)) (word_at 2 (map (λ w. w.now) words.now)))
@@ -211,15 +215,16 @@ fn line_in(alloc: Global, words: &[&[u8]]) -> Result<ReplyLine, LineError>
     line_of_kind(alloc, kind, words)
 }
 
-/// Reads a line after a reply's answer: `sent`, `event`, `handed`, `counted ack`, `counted response` or `kept`.
+/// Reads one of the lines that follow a reply's answer: `sent`, `event`, `handed`, `counted ack`, `counted response` or
+/// `kept`.
 ///
-/// Words are separated by spaces. A line with more than eight words has too many, whatever its kind is. For a line that
-/// can't be read, returns `Bad` with the first cause: `WordCount`, `UnknownWord` or `BadWord`.
+/// The words of a line are separated by spaces. A line with more than eight words has too many words for any kind. If
+/// the line can't be read, returns `Bad` with the first cause that is found: `WordCount`, `UnknownWord` or `BadWord`.
 pub fn read_reply_line(alloc: Global, line: &[u8]) -> Result<ReplyLine, LineError>
     ensures { Gives (λ l. l) result (line_of (words_of line.now)) }
 {
     let mut words = Vec::new(alloc);
-    let rest = take_words(line, &mut words)?;
+    let rest = split_words_into(line, &mut words)?;
     if !rest.is_empty() {
         return Err(LineError::Bad(Cause::WordCount));
     }

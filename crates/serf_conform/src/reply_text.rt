@@ -1,4 +1,4 @@
-//! Writes the lines of a reply after its answer.
+//! Writes the lines that follow the answer in a reply.
 ghost use Rattle.std.specs.Prelude.{◌≡◌, ◌++◌, OnOk, codes, if◌then◌else◌};
 ghost use Rattle.serf_conform.specs.CallText.{flag_word, moment_words, number_word, texts_words};
 ghost use Rattle.serf_conform.specs.ReplyText.{counted_ack_name, counted_response_name, line_text};
@@ -9,7 +9,8 @@ use crate::put::{
 use crate::reply_line::ReplyLine;
 use std::alloc::AllocError;
 
-/// The first two words of the line for a counted ack if `is_ack`, and otherwise of the line for a counted response.
+/// Returns the first two words of a `counted` line: `counted ack` if `is_ack` is true, and `counted response`
+/// otherwise.
 #[tactic(auto, unfolding(crate::specs::ReplyText::counted_ack_name, crate::specs::ReplyText::counted_response_name))]
 fn counted_name(is_ack: bool) -> &'static [u8]
     ensures { result.now ≡ (if is_ack then counted_ack_name else counted_response_name) }
@@ -21,7 +22,7 @@ fn counted_name(is_ack: bool) -> &'static [u8]
     }
 }
 
-/// Appends the first two words of a `counted` line ([`counted_name`]), and then the query's `time` and `id`.
+/// Appends the first two words of a `counted` line ([`counted_name`]), followed by the query's `time` and `id`.
 fn write_counted(out: &mut Vec<u8>, is_ack: bool, time: u64, id: u64) -> Result<(), AllocError>
     ensures { OnOk result (out.new.items ≡ out.old.items
         ++ (if is_ack then counted_ack_name else counted_response_name) ++ moment_words time id) }
@@ -40,8 +41,8 @@ fn write_handed(out: &mut Vec<u8>, index: u64, time: u64, id: u64) -> Result<(),
     write_moment_words(out, time, id)
 }
 
-/// Appends the line of an event that was handed out: the word `event`, its `time`, its `name` and `payload` in hex, and
-/// `1` or `0` for `coalesce`.
+/// Appends the line of an event that was handed out: the word `event`, the event's `time`, its `name` and `payload` in
+/// hex, and `coalesce` as `1` or `0`.
 fn write_event(
     out: &mut Vec<u8>,
     time: u64,
@@ -60,8 +61,8 @@ fn write_event(
 
 /// Appends the text of `line`, without a newline.
 ///
-/// If memory for the text runs out, which is the only reason for an `AllocError`, `out` may end with a part of the
-/// text.
+/// If memory runs out, which is the only reason for an `AllocError`, only a part of the text may have been appended to
+/// `out`.
 pub fn write_reply_line(out: &mut Vec<u8>, line: &ReplyLine) -> Result<(), AllocError>
     ensures { OnOk result (out.new.items ≡ out.old.items ++ line_text line.now) }
 {

@@ -1,4 +1,4 @@
-//! The report on agents that were compared, for other programs to read: one JSON object per line.
+//! Writes the report on the compared agents as one JSON object per line, for other programs to read.
 
 ghost use Rattle.std.specs.Prelude.{◌≡◌, ◌++◌, ◌<◌, OnOk};
 ghost use Rattle.std.specs.List.{flat_map};
@@ -9,7 +9,7 @@ ghost use Rattle.serf_conform.specs.ReportMembers.{member_text};
 use serf_text::write_number;
 use std::alloc::AllocError;
 
-/// The call at which an agent differs from the reference, or ended.
+/// The call at which an agent differed from the reference or ended.
 #[derive(Clone, Copy)]
 pub struct Disagreement<'a> {
     /// The seed of the schedule, or `None` if the schedule was read from a file.
@@ -18,17 +18,17 @@ pub struct Disagreement<'a> {
     pub kind: Option<&'a [u8]>,
     /// The agent's number.
     pub agent: u64,
-    /// How many calls of this agent before this one agree.
+    /// The number of the agent's calls that agreed before this call.
     pub agreed: u64,
-    /// The number of the action, counted from 1. It is 0 for the opening.
+    /// The number of the action, counted from 1, or 0 for the opening.
     pub action: u64,
-    /// The line of the schedule, counted from 1. It is 0 for the opening.
+    /// The number of the line in the schedule, counted from 1, or 0 for the opening.
     pub line: u64,
-    /// The call, without its newline.
+    /// The line of the call, without its newline.
     pub call: &'a [u8],
     /// The lines of the expected reply, with newlines between them.
     pub wanted: &'a [u8],
-    /// The lines of the reply that was read. It is empty if the agent ended.
+    /// The lines of the reply that was read, or nothing if the agent ended.
     pub got: &'a [u8],
     /// Whether the agent ended instead of replying.
     pub has_ended: bool,
@@ -37,17 +37,17 @@ pub struct Disagreement<'a> {
 /// The sums over all agents that were compared.
 #[derive(Clone, Copy)]
 pub struct Sums {
-    /// How many seeds were compared to their end. It is 1 for the schedule of a file.
+    /// The number of seeds whose schedules were compared to the end, or 1 if the schedule was read from a file.
     pub schedules: u64,
-    /// How many calls agree.
+    /// The number of calls whose replies agree.
     pub calls: u64,
-    /// How many agents differ from the reference, or ended.
+    /// The number of agents that differed from the reference or ended.
     pub disagreements: u64,
     /// The exit status of the command.
     pub status: u64,
 }
 
-/// A member of a JSON object: its name and its value.
+/// A member of a JSON object, with its name and its value.
 #[derive(Clone, Copy)]
 pub(crate) enum Member<'a> {
     Number(&'a [u8], u64),
@@ -57,7 +57,7 @@ pub(crate) enum Member<'a> {
     Absent,
 }
 
-/// The ASCII byte of the hex digit `digit`, in lower case.
+/// Returns the ASCII code of the hex digit `digit`, in lower case.
 fn hex_digit(digit: u8) -> u8
     requires { digit < 16 }
     ensures { result ≡ hex_digit_of digit }
@@ -65,8 +65,8 @@ fn hex_digit(digit: u8) -> u8
     if digit < 10 { 48 + digit } else { 87 + digit }
 }
 
-/// Appends `byte` as it is written in a JSON text. A quote or a backslash gets a backslash in front, and a byte that
-/// isn't printable ASCII is written as `\u00` with two hex digits.
+/// Appends `byte` as it is written in a JSON string. A quote or a backslash is preceded by a backslash, and a byte that
+/// isn't printable ASCII is written as `\u00` followed by two hex digits.
 fn write_json_byte(out: &mut Vec<u8>, byte: u8) -> Result<(), AllocError>
     ensures { OnOk result (out.new.items ≡ out.old.items ++ json_byte byte) }
 {
@@ -80,7 +80,7 @@ fn write_json_byte(out: &mut Vec<u8>, byte: u8) -> Result<(), AllocError>
     }
 }
 
-/// Appends `text` in quotes, as a JSON text.
+/// Appends `text` in quotes, as a JSON string.
 fn write_json_text(out: &mut Vec<u8>, text: &[u8]) -> Result<(), AllocError>
     ensures { OnOk result (out.new.items ≡ out.old.items ++ json_text text.now) }
 {
@@ -91,7 +91,7 @@ fn write_json_text(out: &mut Vec<u8>, text: &[u8]) -> Result<(), AllocError>
     out.extend_from_slice(b"\"")
 }
 
-/// Appends a comma, and the name of a member with a colon.
+/// Appends a comma, the name of a member in quotes, and a colon.
 fn write_name(out: &mut Vec<u8>, name: &[u8]) -> Result<(), AllocError>
     ensures { OnOk result (out.new.items ≡ out.old.items ++ name_text name.now) }
 {
@@ -100,7 +100,7 @@ fn write_name(out: &mut Vec<u8>, name: &[u8]) -> Result<(), AllocError>
     out.extend_from_slice(b"\":")
 }
 
-/// Appends a comma, and a member's name and value. Appends nothing for a member that is absent.
+/// Appends a comma, followed by the name and the value of `member`. If the member is absent, appends nothing.
 fn write_member(out: &mut Vec<u8>, member: Member) -> Result<(), AllocError>
     ensures { OnOk result (out.new.items ≡ out.old.items ++ member_text member.entry) }
 {
@@ -121,7 +121,7 @@ fn write_member(out: &mut Vec<u8>, member: Member) -> Result<(), AllocError>
     }
 }
 
-/// Appends a line with an object that has the kind `kind` and these members.
+/// Appends a line that contains a JSON object of the kind `kind` with the members in `members`.
 fn write_object(out: &mut Vec<u8>, kind: &[u8], members: &[Member]) -> Result<(), AllocError>
     ensures { OnOk result (out.new.items ≡ out.old.items
         ++ object_text kind.now (flat_map member_text members.now)) }
@@ -134,7 +134,7 @@ fn write_object(out: &mut Vec<u8>, kind: &[u8], members: &[Member]) -> Result<()
     out.extend_from_slice(b"}\n")
 }
 
-/// The member `seed`, which is null if the schedule was read from a file.
+/// Returns the member `seed`, whose value is null if the schedule was read from a file.
 fn seed_in<'a>(seed: Option<u64>) -> Member<'a>
     ensures { member_text result ≡ seed_text seed }
 {
@@ -144,7 +144,7 @@ fn seed_in<'a>(seed: Option<u64>) -> Member<'a>
     }
 }
 
-/// The member `kind`, which is absent if there is no kind to report.
+/// Returns the member `kind`, which is absent if there is no kind to report.
 fn kind_in<'a>(kind: Option<&'a [u8]>) -> Member<'a>
     ensures { member_text result ≡ kind_member (option_copied kind.entry) }
 {
@@ -154,7 +154,8 @@ fn kind_in<'a>(kind: Option<&'a [u8]>) -> Member<'a>
     }
 }
 
-/// The kind of the object that reports a disagreement: the agent ended, or it replied differently.
+/// Returns the kind of the object that reports a disagreement: `ended` if the agent ended, and `differs` if it replied
+/// differently.
 fn kind_of(has_ended: bool) -> &'static [u8]
     ensures { result.now ≡ kind_text has_ended }
 {
@@ -163,7 +164,7 @@ fn kind_of(has_ended: bool) -> &'static [u8]
 
 /// Appends the line that reports a disagreement: a JSON object with the members `report` (`differs` or `ended`),
 /// `seed`, `kind` (only if there is one), `agent`, `agreed`, `action`, `line`, `call`, `wanted` and `got`. If memory
-/// for the line runs out, the result is an `AllocError`, and `out` may end with a part of the line.
+/// runs out (`AllocError`), only a part of the line may have been appended to `out`.
 #[tactic(auto, unfolding(crate::specs::Report::disagreement_text))]
 pub fn write_disagreement(out: &mut Vec<u8>, told: &Disagreement) -> Result<(), AllocError>
     ensures { OnOk result (out.new.items ≡ out.old.items ++ disagreement_text told.now) }
@@ -183,8 +184,8 @@ pub fn write_disagreement(out: &mut Vec<u8>, told: &Disagreement) -> Result<(), 
 }
 
 /// Appends the line that ends a report: a JSON object with the members `report` (`end`), `schedules`, `calls`,
-/// `disagreements` and `status`. If memory for the line runs out, the result is an `AllocError`, and `out` may end with
-/// a part of the line.
+/// `disagreements` and `status`. If memory runs out (`AllocError`), only a part of the line may have been appended to
+/// `out`.
 #[tactic(auto, unfolding(crate::specs::Report::sums_text))]
 pub fn write_sums(out: &mut Vec<u8>, sums: &Sums) -> Result<(), AllocError>
     ensures { OnOk result (out.new.items ≡ out.old.items ++ sums_text sums.now) }

@@ -1,4 +1,4 @@
-//! Compares an agent with the reference from its first call to its last, and returns the verdict.
+//! Compares an agent with the reference from the agent's first call to its last, and returns the verdict.
 
 ghost use Rattle.std.specs.Prelude.{◌≡◌, ℕ, List, [], Option, IfOk, IfSome, OnOk};
 ghost use Rattle.std.specs.Io.KnownBytes.{Appends};
@@ -11,7 +11,7 @@ ghost use Rattle.serf_conform.specs.Rules.{is_serf};
 ghost use Rattle.serf_conform.specs.Session.{Concludes, HasRoom, IsOutcome, IsFew, IsTaken, outcome_for, ending_of, last_of, opened_of, session, session_from, verdict_at};
 ghost use Rattle.serf_conform.specs.ExpectedReply.{opening as opening_of};
 
-use crate::asking::{Tally, TurnOutcome, ask_and_dump, ask_dump, take_turn};
+use crate::asking::{Tally, TurnOutcome, call_and_look, call_look, compare_turn};
 use crate::call_text::write_open;
 use crate::dump::StateDump;
 use crate::replies::opening;
@@ -24,7 +24,7 @@ use serf_world::World;
 use std::alloc::{AllocError, Global};
 use std::io::{Read, Write};
 
-/// The line of the call that opens an agent with the settings `config` on an empty snapshot.
+/// Returns the line of the call that opens an agent with the settings `config` on an empty snapshot.
 fn open_text(alloc: Global, config: &Config) -> Result<Vec<u8>, AllocError>
     ensures { IfOk result (λ text. text.items ≡ open_line config.now []) }
 {
@@ -33,8 +33,8 @@ fn open_text(alloc: Global, config: &Config) -> Result<Vec<u8>, AllocError>
     Ok(out)
 }
 
-/// Opens an agent with the subject's settings on an empty snapshot, and makes the call `look`. The agent should have the
-/// state of the agent in `solo`, to which no call was made yet.
+/// Opens an agent with the subject's settings on an empty snapshot, and makes the call `look`. The opened agent should
+/// then have the same state as the agent in `solo`, which hasn't received any calls yet.
 fn open<R: Read, W: Write>(
     alloc: Global,
     pipe: &mut Pipe<R, W>,
@@ -50,11 +50,11 @@ fn open<R: Read, W: Write>(
     let dump = dump_at(alloc, solo)?;
     let text = open_text(alloc, subject.config)?;
     let reply = opening(alloc)?;
-    ask_and_dump(alloc, pipe, subject.rules, Some(dump), &text, &[], &reply)
+    call_and_look(alloc, pipe, subject.rules, Some(dump), &text, &[], &reply)
 }
 
-/// The verdict of a comparison that ended at action number `action` because of `end`. `tally` has its counts. If it
-/// ended at a `look`, `dump` is the state that the agent should have had.
+/// Returns the verdict of a comparison that ended at action number `action` for the reason `end`. `tally` contains the
+/// counts of the comparison. If the comparison ended at a `look`, `dump` is the state that the agent should have had.
 fn verdict_at(action: u64, tally: Tally, dump: Option<StateDump>, end: End) -> Verdict
     ensures { result ≡ verdict_at action tally dump end }
 {
@@ -68,8 +68,8 @@ fn verdict_at(action: u64, tally: Tally, dump: Option<StateDump>, end: End) -> V
     }
 }
 
-/// The verdict if `outcome`, the outcome of action number `action`, ends the comparison, or `None` if it continues.
-/// `tally` has the counts before the action.
+/// Returns the verdict if `outcome`, the outcome of action number `action`, ends the comparison. Returns `None` if the
+/// comparison continues. `tally` contains the counts as they were before the action.
 fn ending(outcome: TurnOutcome, action: u64, tally: Tally) -> Option<Verdict>
     requires { HasRoom tally }
     ensures { result ≡ ending_of outcome action tally }
@@ -88,8 +88,9 @@ fn ending(outcome: TurnOutcome, action: u64, tally: Tally) -> Option<Verdict>
     Some(verdict_at(action, more, dump, end))
 }
 
-/// The verdict after all calls. `dumped` is the outcome of the `look` after the last call, which should have shown
-/// `dump`. `tally` has the counts before that `look`, and `action` is the number of the last action plus one.
+/// Returns the verdict of a comparison in which all calls were made. `dumped` is the outcome of the final `look`, which
+/// should have shown the state `dump`. `tally` contains the counts as they were before the final `look`, and `action`
+/// is the number of the last action plus one.
 fn last_ending(dumped: TurnOutcome, action: u64, tally: Tally, dump: StateDump) -> Verdict
     requires { HasRoom tally }
     ensures { result ≡ last_of dumped action tally dump }
@@ -117,8 +118,9 @@ fn last_ending(dumped: TurnOutcome, action: u64, tally: Tally, dump: StateDump) 
     }
 }
 
-/// Makes the call `look` after the last call, and returns the verdict. The agent should have the state of the agent in
-/// `solo`. `tally` has the counts before the `look`, and `action` is the number of the last action plus one.
+/// Makes the call `look` after the last call, and returns the verdict. The agent under test should have the same state
+/// as the agent in `solo`. `tally` contains the counts as they were before the `look`, and `action` is the number of
+/// the last action plus one.
 fn dump_last<R: Read, W: Write>(
     alloc: Global,
     pipe: &mut Pipe<R, W>,
@@ -136,14 +138,15 @@ fn dump_last<R: Read, W: Write>(
         verdict (R.remaining pipe.new.reader) held (W.contents pipe.new.writer))) }
 {
     let dump = dump_at(alloc, solo)?;
-    let dumped = ask_dump(alloc, pipe, rules, &dump)?;
+    let dumped = call_look(alloc, pipe, rules, &dump)?;
     Ok(last_ending(dumped, action, tally, dump))
 }
 
-/// Compares an agent that was opened with the subject's settings with the turns of `run`, by making the calls of the
-/// subject's agent. `solo` is the world of the reference, and `tally` has the counts after the opening. Returns
-/// `OtherTrace` if there are fewer lines than actions, or fewer packets than the lines say.
-fn hold_on<R: Read, W: Write>(
+/// Makes the calls that the subject's agent got in `run`, and compares each reply with the expected reply. The agent
+/// under test has already been opened with the subject's settings. `solo` is the world of the reference, and `tally`
+/// contains the counts as they were after the opening. Returns `OtherTrace` if `run` has fewer lines than actions, or
+/// fewer packets than its lines say were sent.
+fn compare_turns<R: Read, W: Write>(
     alloc: Global,
     pipe: &mut Pipe<R, W>,
     subject: &Subject,
@@ -160,7 +163,7 @@ fn hold_on<R: Read, W: Write>(
         verdict (R.remaining pipe.new.reader) held (W.contents pipe.new.writer))) }
 {
     let (mut actions, mut lines) = (run.actions, run.lines);
-    // `number` is the number of the next action, and `count` is how many packets were sent before it.
+    // The next action is action number `number`, and `count` packets were sent before that action.
     let mut number: u64 = 1;
     let mut tally = tally;
     let mut count: usize = 0;
@@ -177,7 +180,7 @@ fn hold_on<R: Read, W: Write>(
                         count,
                     };
                     let due = follow_turn(alloc, solo, subject.agent, &turn)?;
-                    let outcome = take_turn(alloc, pipe, subject, due, &turn)?;
+                    let outcome = compare_turn(alloc, pipe, subject, due, &turn)?;
                     let more = outcome.counted(tally);
                     if let Some(verdict) = ending(outcome, number, tally) {
                         return Ok(verdict);
@@ -193,18 +196,19 @@ fn hold_on<R: Read, W: Write>(
     }
 }
 
-/// Compares the agent at the pipe with the reference: opens it on an empty snapshot with the subject's settings, makes
-/// the calls that the subject's agent got in `trace`, the trace of `actions`, and compares each reply by its meaning
-/// ([`crate::line_means`]).
+/// Compares the agent at the other end of the pipe with the reference. The function opens the agent on an empty
+/// snapshot with the subject's settings, and makes the calls that the subject's agent got in `trace`, the trace of
+/// `actions`. The function compares each reply with the expected reply by meaning ([`crate::line_means`]).
 ///
-/// It also makes the call `look` after the opening, after each call that is refused, that restarts the agent or that
-/// compacts its snapshot, and after the last call. The agent should then have the same state as the reference after the
-/// same calls ([`judge_dump`]). If the reply to a `look` is `unsupported`, this is counted and has no other effect.
+/// The function also makes the call `look` after the opening, after each refusal, restart or compaction, and after the
+/// last call. At each `look`, the agent should have the same state as the reference has after the same calls
+/// ([`judge_dump`]). A reply of `unsupported` to a `look` is counted, but has no other effect.
 ///
-/// A call is written only after the reply to the previous call was read and agrees. A delivery or a merge that names no
-/// packet isn't a call. Unless the agent has ended, exactly the replies to the calls were read, so the next `hold` on
-/// this pipe can open the agent again. Returns `NoAgent` if the settings are out of bounds. After an error, the agent
-/// may have received a part of a call.
+/// The function writes a call only after it has read the reply to the previous call, and only if that reply agrees. A
+/// delivery or a merge isn't a call if the packet that it names hasn't been sent. Unless the agent has ended, the
+/// function has read exactly the replies to its calls, so the next `hold` on this pipe can open the agent again.
+/// Returns `NoAgent` if the settings are out of bounds. If the function returns an error, the agent may have received
+/// only part of a call.
 ///
 /// [`judge_dump`]: crate::judge_dump
 pub fn hold<R: Read, W: Write>(
@@ -214,7 +218,7 @@ pub fn hold<R: Read, W: Write>(
     actions: &[Action],
     trace: &Trace,
 ) -> Result<Verdict, ConformError>
-    // The verdict, what was written and what is left to read follow from what the agent writes.
+    // The agent's output determines the verdict, the calls that are written, and the input that is left unread.
     ensures { IfOk result (λ verdict. IfSome (R.remaining pipe.old.reader) (λ input. Concludes
         (session (is_serf subject.now.rules) subject.now.agent subject.now.config.now
         (turns_of actions.now (outcome_of trace.now)) input) verdict (R.remaining pipe.new.reader)
@@ -237,5 +241,5 @@ pub fn hold<R: Read, W: Write>(
         lines,
         sent,
     };
-    hold_on(alloc, pipe, subject, &mut solo, tally, &run)
+    compare_turns(alloc, pipe, subject, &mut solo, tally, &run)
 }

@@ -1,4 +1,4 @@
-//! Shortens the calls at which an agent fails, until no single call can be left out.
+//! Shortens the list of calls on which an agent fails, until no single call can be left out.
 
 ghost use Rattle.std.specs.Prelude.{◌≡◌, ◌≤◌, ◌++◌, ℕ, List, Option, [], true, false, length, take, drop, IfOk, IfSome};
 ghost use Rattle.serf_conform.specs.Rules.{is_serf};
@@ -13,27 +13,28 @@ use serf_schedule::Watch;
 use std::alloc::{AllocError, Global};
 use std::io::{Read, Write};
 
-/// What is left of the calls at which an agent fails.
+/// The calls that are left after shortening, on which the agent still fails.
 #[derive(Drop)]
 pub struct Shrunk {
     pub calls: Vec<Call>,
-    /// Whether no single call can be left out. If false, the agent ended during a trial. Tests check this reason, but
-    /// it isn't proved.
+    /// Whether no single call can be left out. If the agent ended during a trial, the value is false, which is tested
+    /// but not proved.
     pub is_smallest: bool,
 }
 
-/// The result of trials with fewer calls.
+/// The result of a series of trials with fewer calls.
 #[derive(Drop)]
 pub(crate) enum Narrowed {
-    /// These calls fail too.
+    /// The agent also fails on this shorter list of calls.
     Shorter(Vec<Call>),
-    /// None of the shorter lists failed.
+    /// The agent failed on none of the shorter lists.
     Stays,
     /// The agent ended during a trial.
     Ended,
 }
 
-/// The calls without those at the positions from `from` to `to` - 1.
+/// Returns a copy of `calls` that leaves out each call whose position, counted from 0, is at least `from` and less than
+/// `to`.
 fn without(alloc: Global, calls: &[Call], from: usize, to: usize) -> Result<Vec<Call>, AllocError>
     requires ordered { from ≤ to }
     requires within { to ≤ length calls.now }
@@ -45,8 +46,8 @@ fn without(alloc: Global, calls: &[Call], from: usize, to: usize) -> Result<Vec<
     Ok(left)
 }
 
-/// Tries the calls without those at the positions from `from` to `to` - 1. Returns the calls that were tried, with the
-/// outcome.
+/// Leaves out each call whose position, counted from 0, is at least `from` and less than `to`, and tries the remaining
+/// calls. Returns the calls that were tried, and the outcome of the trial.
 fn try_without<R: Read, W: Write>(
     alloc: Global,
     pipe: &mut Pipe<R, W>,
@@ -68,7 +69,7 @@ fn try_without<R: Read, W: Write>(
     Ok((left, outcome))
 }
 
-/// Tries the calls without each single one of them, up to the first shorter list that fails.
+/// Tries to leave out each single call in turn, until the agent fails on a shorter list.
 fn narrow_by_one<R: Read, W: Write>(
     alloc: Global,
     pipe: &mut Pipe<R, W>,
@@ -94,8 +95,8 @@ fn narrow_by_one<R: Read, W: Write>(
     Ok(Narrowed::Stays)
 }
 
-/// Tries the calls without `size` calls in a row, beginning at each multiple of `size`, up to the first shorter list
-/// that fails.
+/// Tries to leave out `size` calls in a row, beginning at each multiple of `size` in turn, until the agent fails on a
+/// shorter list.
 fn narrow_by_many<R: Read, W: Write>(
     alloc: Global,
     pipe: &mut Pipe<R, W>,
@@ -125,7 +126,8 @@ fn narrow_by_many<R: Read, W: Write>(
     Ok(Narrowed::Stays)
 }
 
-/// Tries the calls without each single one of them if `singles` is true, and otherwise without `size` calls in a row.
+/// If `singles` is true, tries to leave out each single call in turn. Otherwise, tries to leave out `size` calls in a
+/// row.
 fn narrow<R: Read, W: Write>(
     alloc: Global,
     pipe: &mut Pipe<R, W>,
@@ -149,8 +151,8 @@ fn narrow<R: Read, W: Write>(
     }
 }
 
-/// Leaves out calls as long as what is left still fails. It first tries to leave out half of the calls at once, and
-/// halves this number each time that nothing can be left out.
+/// Leaves out calls for as long as the agent still fails on the remaining calls. The function first tries to leave out
+/// half of the calls at once, and halves that number whenever nothing can be left out.
 fn settle<R: Read, W: Write, H: Watch>(
     alloc: Global,
     pipe: &mut Pipe<R, W>,
@@ -186,16 +188,16 @@ fn settle<R: Read, W: Write, H: Watch>(
     }
 }
 
-/// Shortens the calls at which an agent fails: tries sublists of them ([`try_calls`]), each on an agent that is opened
-/// again, until none of their single deletions fails.
+/// Shortens the list of calls on which an agent fails, until no single call can be left out. The function tries
+/// sublists ([`try_calls`]), and opens the agent again for each sublist.
 ///
-/// The calls themselves are tried first, and the result is `None` if they don't fail. The calls that are left failed
-/// when they were last tried, and nothing that was tried after that failed. If the agent ends during a trial, no
-/// further trial is made, and the result is what is left by then. Returns `NoAgent` if the settings are out of bounds.
-/// After any error, the agent may have received a part of a call.
+/// The function first tries the whole list, and returns `None` if the agent doesn't fail on it. The agent failed on the
+/// remaining calls when they were last tried, and didn't fail in any trial after that. If the agent ends during a
+/// trial, the function makes no further trials, and returns the calls that are left at that point. Returns `NoAgent` if
+/// the settings are out of bounds. If the function returns an error, the agent may have received only part of a call.
 ///
-/// From time to time, the function calls `watch` with the number of calls that are left out and with the number of all
-/// calls. Tests check this, but it isn't proved.
+/// From time to time, the function calls `watch` with the number of calls left out so far and the total number of
+/// calls. Tests check that the function calls `watch` in this way, but this isn't proved.
 pub fn shrink<R: Read, W: Write, H: Watch>(
     alloc: Global,
     pipe: &mut Pipe<R, W>,

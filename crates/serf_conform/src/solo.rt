@@ -1,5 +1,5 @@
-//! The reference in a world that has no other agent. The reference, agent 0 of this world, gets the calls of the agent
-//! under test and nothing else, so its state is the one that the agent under test should have.
+//! Runs the reference as the only agent in a world. The reference, agent 0 of that world, gets exactly the same calls
+//! as the agent under test, so the two agents should always have the same state.
 
 ghost use Rattle.std.specs.Prelude.{◌≡◌, ◌++◌, ◌∷◌, List, [], true, IfErr, IfOk, OnOk, Some, slice_get};
 ghost use Rattle.serf_agent.specs.declared.config.Config.{Config};
@@ -19,9 +19,9 @@ use serf_wire::Bytes;
 use serf_world::{Roster, World};
 use std::alloc::Global;
 
-/// The roster of a single agent with the settings `config`. Returns `NoAgent` exactly if the settings are out of
-/// bounds, and `OutOfMemory` only if they are within bounds and there is no memory for the roster. There are no other
-/// errors.
+/// Returns a roster that contains a single agent, with the settings `config`. Returns `NoAgent` if and only if the
+/// settings are out of bounds. Returns `OutOfMemory` only if the settings are within bounds and there isn't enough
+/// memory for the roster. The function returns no other errors.
 pub(crate) fn solo_roster(alloc: Global, config: &Config) -> Result<Roster, ConformError>
     ensures alone { IfOk result (λ roster. roster ≡ config.now ∷ []) }
     ensures sound { OnOk result (is_sound config.now ≡ true) }
@@ -48,7 +48,7 @@ pub(crate) fn open_solo(alloc: Global, config: &Config) -> Result<World, Conform
     Ok(World::new(alloc, solo_roster(alloc, config)?)?)
 }
 
-/// Lets the only agent of `world` do `act`.
+/// Makes the only agent in `world` perform `act`.
 fn act_solo(alloc: Global, world: &mut World, act: Act) -> Result<(), ConformError>
     ensures { (config : Config) (made : List AgentCall) (call : AgentCall)
         → IsSolo config made world.old → DoesAs world.old.sent act call
@@ -58,7 +58,8 @@ fn act_solo(alloc: Global, world: &mut World, act: Act) -> Result<(), ConformErr
     Ok(())
 }
 
-/// Injects the packet `given` into `world`, and returns its number among the packets that were sent, counted from 0.
+/// Injects the packet `given` into `world`, and returns the packet's number. The packets that were sent are numbered
+/// from 0.
 fn send_solo(alloc: Global, world: &mut World, given: &[u8]) -> Result<u64, ConformError>
     ensures solo { (config : Config) (made : List AgentCall) → IsSolo config made world.old
         → OnOk result (IsSolo config made world.new) }
@@ -71,7 +72,7 @@ fn send_solo(alloc: Global, world: &mut World, given: &[u8]) -> Result<u64, Conf
     Ok(number)
 }
 
-/// Lets the only agent of `world` make the call `act`: a delivery or a merge of the packet `given`, or any other act.
+/// Makes the only agent in `world` perform `act`. If `act` is a delivery or a merge, it carries the packet `given`.
 fn call_solo(alloc: Global, world: &mut World, act: &Act, given: &[u8]) -> Result<(), ConformError>
     ensures { (config : Config) (made : List AgentCall) → IsSolo config made world.old
         → OnOk result (IsSolo config
@@ -91,7 +92,7 @@ fn call_solo(alloc: Global, world: &mut World, act: &Act, given: &[u8]) -> Resul
     }
 }
 
-/// The state of the only agent of `world`. Returns `NoAgent` if the world has no agent.
+/// Returns the state of the only agent in `world`. Returns `NoAgent` if the world has no agent.
 pub(crate) fn dump_at(alloc: Global, world: &World) -> Result<StateDump, ConformError>
     ensures { (config : Config) (made : List AgentCall) → IsSolo config made world.now
         → IfOk result (λ dump. dump ≡ dump_after config made) }
@@ -110,7 +111,7 @@ pub(crate) fn dump_at(alloc: Global, world: &World) -> Result<StateDump, Conform
     })
 }
 
-/// The state of the only agent of `world`, if a `look` is due after a call that was answered with `answer`.
+/// If a `look` is due after a call that was answered with `answer`, returns the state of the only agent in `world`.
 fn due_dump(alloc: Global, world: &World, answer: Answer) -> Result<Option<StateDump>, ConformError>
     ensures { (config : Config) (made : List AgentCall) → IsSolo config made world.now
         → IfOk result (λ due. due ≡ due_if (dumped_after answer) (dump_after config made)) }
@@ -121,9 +122,9 @@ fn due_dump(alloc: Global, world: &World, answer: Answer) -> Result<Option<State
     Ok(Some(dump_at(alloc, world)?))
 }
 
-/// Lets the only agent of `world` make the call of `turn`, if this is a turn of agent number `agent`. Returns the
-/// agent's new state if a `look` is due after the turn. Returns `OtherTrace` if the run has fewer packets than were sent
-/// before the turn.
+/// If `turn` is a turn of agent number `agent`, makes the only agent in `world` perform the call of the turn. If a
+/// `look` is due after the turn, returns the new state of the only agent. Returns `OtherTrace` if the run has fewer
+/// packets than were sent before the turn.
 pub(crate) fn follow_turn(
     alloc: Global,
     world: &mut World,

@@ -1,4 +1,4 @@
-//! What is compared, by which rules, and the pipe to the agent under test.
+//! The subject of a comparison, its rules, and the pipe to the agent under test.
 
 use crate::verdict::Rules;
 use serf_agent::Config;
@@ -8,13 +8,13 @@ use serf_wire::Bytes;
 /// The pipe to the agent under test.
 #[derive(Drop)]
 pub struct Pipe<R, W> {
-    /// Has the agent's replies.
+    /// The stream from which the agent's replies are read.
     pub reader: R,
-    /// Receives the calls.
+    /// The stream to which the calls are written.
     pub writer: W,
 }
 
-/// An agent of a run that the agent under test is compared with, and the rules of this comparison.
+/// One agent of a run, with which the agent under test is compared, and the rules of the comparison.
 #[derive(Clone, Copy)]
 pub struct Subject<'a> {
     pub rules: Rules,
@@ -24,7 +24,7 @@ pub struct Subject<'a> {
     pub config: &'a Config,
 }
 
-/// A run: its actions, their lines in its trace, and all packets that it sent.
+/// A run: its actions, the actions' lines in the trace, and all packets that were sent.
 #[derive(Clone, Copy)]
 pub(crate) struct RunView<'a> {
     pub(crate) actions: &'a [Action],
@@ -40,6 +40,6 @@ pub(crate) struct TurnView<'a> {
     pub(crate) line: &'a Line,
     /// All packets of the run.
     pub(crate) sent: &'a [Bytes],
-    /// How many packets were sent before the turn.
+    /// The number of packets that were sent before the turn.
     pub(crate) count: usize,
 }

@@ -1,4 +1,4 @@
-//! The run of a schedule, and the comparison of all its agents, one after another.
+//! Runs a schedule, and compares all its agents with the reference, one after another.
 
 ghost use Rattle.std.specs.Prelude.{◌≡◌, [], IfOk, IfSome};
 ghost use Rattle.serf_model.specs.Trace.{outcome_of, turns_of};
@@ -6,7 +6,7 @@ ghost use Rattle.serf_schedule.specs.Line.{Parsed};
 ghost use Rattle.serf_schedule.specs.Schedule.{parsed_of};
 ghost use Rattle.serf_conform.specs.Rules.{is_serf};
 ghost use Rattle.serf_conform.specs.Case.{IsRunOf};
-ghost use Rattle.serf_conform.specs.Sweep.{Sweeps, ends_unsupported as ends_unsupported_of, is_other as is_other_end, no_counts, sum_of, sweep, sweep_from, with_verdict};
+ghost use Rattle.serf_conform.specs.Sweep.{Sweeps, ends_unsupported as ends_unsupported_of, is_differing as is_other_end, no_counts, sum_of, sweep, sweep_from, with_verdict};
 
 use crate::session::hold;
 use crate::subject::{Pipe, Subject};
@@ -26,7 +26,7 @@ pub struct Case {
     pub trace: Trace,
 }
 
-/// Runs a schedule.
+/// Runs `schedule`, and returns it together with the trace of the run.
 pub fn case_of(alloc: Global, schedule: Schedule) -> Result<Case, AllocError>
     ensures { IfOk result (IsRunOf (parsed_of schedule)) }
 {
@@ -42,32 +42,35 @@ pub fn case_of(alloc: Global, schedule: Schedule) -> Result<Case, AllocError>
     }
 }
 
-/// Sums over agents. Each sum stops at 2^64 - 1.
+/// Sums over the agents that were compared. Each sum saturates at 2^64 - 1.
 #[derive(Clone, Copy, PartialEq, Eq)]
 pub struct Counts {
-    /// How many agents were compared.
+    /// The number of agents that were compared.
     pub agents: u64,
-    /// How many calls agree, including the opening of each agent.
+    /// The number of calls whose replies agree, including the opening of each agent.
     pub calls: u64,
-    /// For how many agents the comparison ended at a call that is unsupported.
+    /// The number of agents whose reply to the opening agrees.
+    pub openings: u64,
+    /// The number of agents whose comparison ended at an unsupported call.
     pub unsupported_agents: u64,
-    /// How many replies to `look` are `unsupported`.
+    /// The number of replies to `look` that are `unsupported`.
     pub unsupported_dumps: u64,
 }
 
-/// The sums over no agent. Allocates no memory.
+/// Returns the sums before any agent has been compared, which are all 0. Allocates no memory.
 pub fn no_counts() -> Counts
     ensures { result ≡ no_counts }
 {
     Counts {
         agents: 0,
         calls: 0,
+        openings: 0,
         unsupported_agents: 0,
         unsupported_dumps: 0,
     }
 }
 
-/// Returns 1 if the comparison ended at a call that is unsupported, and 0 otherwise.
+/// Returns 1 if the comparison ended at an unsupported call, and 0 otherwise.
 fn ends_unsupported(end: &End) -> u64
     ensures { result ≡ ends_unsupported_of end.now }
 {
@@ -77,13 +80,15 @@ fn ends_unsupported(end: &End) -> u64
     }
 }
 
-/// Adds `counts` and `more`. Each sum stops at 2^64 - 1. Allocates no memory.
+/// Adds `counts` and `more` field by field, and returns the result. Each sum saturates at 2^64 - 1. Allocates no
+/// memory.
 pub fn sum_of(counts: Counts, more: Counts) -> Counts
     ensures { result ≡ sum_of counts more }
 {
     Counts {
         agents: counts.agents.saturating_add(more.agents),
         calls: counts.calls.saturating_add(more.calls),
+        openings: counts.openings.saturating_add(more.openings),
         unsupported_agents: counts
             .unsupported_agents
             .saturating_add(more.unsupported_agents),
@@ -93,7 +98,8 @@ pub fn sum_of(counts: Counts, more: Counts) -> Counts
     }
 }
 
-/// Adds one more agent's verdict to `counts`. Each sum stops at 2^64 - 1. Allocates no memory.
+/// Adds the verdict on one more agent to `counts`, and returns the result. Each sum saturates at 2^64 - 1. Allocates no
+/// memory.
 pub fn with_verdict(counts: Counts, verdict: &Verdict) -> Counts
     ensures { result ≡ with_verdict counts verdict.now }
 {
@@ -101,38 +107,39 @@ pub fn with_verdict(counts: Counts, verdict: &Verdict) -> Counts
     let more = Counts {
         agents: 1,
         calls: verdict.calls,
+        openings: verdict.calls.min(1),
         unsupported_agents,
         unsupported_dumps: verdict.unsupported_dumps,
     };
     sum_of(counts, more)
 }
 
-/// An agent that differs from the reference.
+/// An agent that differs from the reference or that ended.
 #[derive(Drop)]
 pub struct Other {
     /// The agent's number.
     pub agent: u64,
-    /// The verdict on the agent. Its `end` is `Differs` or `Ended`.
+    /// The verdict on the agent, with `Differs` or `Ended` as its `end`.
     pub verdict: Verdict,
 }
 
-/// The sums over the agents of a schedule that were compared, and the first agent that differs.
+/// The sums over those agents of a schedule that were compared, and the first agent that differs, if there is one.
 #[derive(Drop)]
 pub struct Held {
     pub counts: Counts,
-    /// The first agent that differs from the reference, or that ended.
+    /// The first agent that differs from the reference or that ended, or `None` if there is no such agent.
     pub other: Option<Other>,
 }
 
-/// Whether an agent replied differently, or has ended.
-fn is_other(end: &End) -> bool
+/// Returns whether the comparison ended because the agent's reply differed, or because the agent itself ended.
+fn is_differing(end: &End) -> bool
     ensures { result ≡ is_other_end end.now }
 {
     matches!(end, End::Differs(_) | End::Ended)
 }
 
-/// Compares the agents with the settings `configs`, one after another, up to the first that differs or ends. `trace` is
-/// the trace of `actions`.
+/// Compares the agents whose settings are `configs` with the reference, one after another, up to the first agent that
+/// differs or ends. `trace` is the trace of `actions`.
 fn hold_configs<R: Read, W: Write>(
     alloc: Global,
     pipe: &mut Pipe<R, W>,
@@ -163,7 +170,7 @@ fn hold_configs<R: Read, W: Write>(
                 };
                 let verdict = hold(alloc, pipe, &subject, actions, trace)?;
                 counts = with_verdict(counts, &verdict);
-                if is_other(&verdict.end) {
+                if is_differing(&verdict.end) {
                     let other = Some(Other { agent, verdict });
                     return Ok(Held { counts, other });
                 }
@@ -174,11 +181,12 @@ fn hold_configs<R: Read, W: Write>(
     }
 }
 
-/// Compares each agent of a schedule with the reference, one after another ([`hold`]), up to the first
-/// that differs or ends.
+/// Compares the agents of a schedule with the reference ([`hold`]), one after another, up to the first agent that
+/// differs or ends.
 ///
-/// An agent that doesn't support a call doesn't count as different, and the next agent is compared after it. Under
-/// Serf's rules, the same holds for an agent with a turn that rests on an own rule.
+/// An agent that doesn't support a call isn't counted as differing, and the function continues with the next agent.
+/// Under Serf's rules, the function also continues with the next agent if one of an agent's turns rests on one of this
+/// project's own rules.
 pub fn hold_each<R: Read, W: Write>(
     alloc: Global,
     pipe: &mut Pipe<R, W>,

@@ -1,4 +1,4 @@
-//! One trial: an agent is opened again and gets only these calls, to see whether it fails.
+//! Makes one trial: opens an agent again, makes each call in a list, and checks whether the agent fails.
 
 ghost use Rattle.std.specs.Prelude.{◌≡◌, IfOk, IfSome};
 ghost use Rattle.serf_conform.specs.Rules.{is_serf};
@@ -16,15 +16,15 @@ use std::io::{Read, Write};
 /// The outcome of a trial.
 #[derive(Clone, Copy, PartialEq, Eq)]
 pub enum Outcome {
-    /// Every reply agrees, or every reply before a turn that wasn't compared.
+    /// Every reply that was compared agrees. The comparison may have ended early, before a turn that isn't compared.
     Agrees,
-    /// A reply differs from the expected one.
+    /// A reply differs from the expected reply.
     Fails,
     /// The agent ended.
     Ended,
 }
 
-/// The outcome of a trial whose comparison with the reference ended as `end` says.
+/// Returns the outcome of a trial whose comparison with the reference ended for the reason `end`.
 fn outcome_at(end: &End) -> Outcome
     ensures { result ≡ outcome_of end.now }
 {
@@ -35,8 +35,8 @@ fn outcome_at(end: &End) -> Outcome
     }
 }
 
-/// Opens an agent with the settings `config` again, and compares it with the run of `calls` alone
-/// ([`hold`]). After an error, the agent may have received a part of a call.
+/// Opens the agent again with the settings `config`, and compares it with the reference in a run that makes only
+/// `calls` ([`hold`]). If the function returns an error, the agent may have received only part of a call.
 pub fn try_calls<R: Read, W: Write>(
     alloc: Global,
     pipe: &mut Pipe<R, W>,

@@ -1,5 +1,5 @@
 -- Texts whose blanks are filled.
-use Rattle.serf_draw.proofs.Names.{Bor, List, [], ap, append_assoc, codes, decimal, refl, sym, ℕ, ◌++◌, ◌∙◌, ◌∷◌, ◌≡◌, append-nil, escape, filled, nothing_of, label_place, line_of, mark_text, place_text, tone_word, between, class_text, dot_text, label_text, lane_line, number_text, placed_text, row_text, size_text, text_element, view_text, Lane, Row, ROW}
+use Rattle.serf_draw.proofs.Names.{Bor, List, [], ap, append_assoc, codes, decimal, refl, sym, ℕ, ◌++◌, ◌∷◌, ◌≡◌, append-nil, escape, filled, nothing_of, label_place, line_of, mark_text, place_text, tone_word, between, class_text, dot_text, label_text, lane_line, number_text, placed_text, row_text, size_text, text_element, view_text, Lane, Row, ROW}
 use Rattle.serf_draw.specs.declared.filled.PicturePart.TheVariants as parts
 
 -- texts in groups are the same as one text after another

@@ -15,7 +15,7 @@ use Rattle.serf_model.specs.declared.line.EventLine.{EventLine}
 use Rattle.serf_model.specs.declared.line.Line.{Line}
 use Rattle.serf_model.specs.Trace.{actor_of}
 use Rattle.serf_draw.specs.declared.options.DrawOptions.{DrawOptions}
-use Rattle.serf_draw.specs.Merges.{passed_over, times_brought}
+use Rattle.serf_draw.specs.Merges.{passed_over, carried_times}
 
 -- Agents and numbers
 
@@ -95,4 +95,4 @@ named (Some name) events = filter (has_name name) events
 -- fires, injects, delivers or hands out an event of the selected name.
 abbrev pub is_drawn : DrawOptions → ℕ → Action → Option (List ℕ) → Line → Bool
 is_drawn options n action given line = shows options.agents.items options.from options.to n (actor_of action)
-    && is_kept options.taken line.answer (passed_over line.answer line.events (times_brought action given)) && (names options.event action given || hands_out options.event line.events)
+    && is_kept options.taken line.answer (passed_over line.answer line.events (carried_times action given)) && (names options.event action given || hands_out options.event line.events)

@@ -28,7 +28,7 @@ use Rattle.serf_draw.specs.declared.picture.Tone.{Tone}
 use Rattle.serf_draw.specs.declared.picture.Tone.TheVariants.{Taken, Ignored, Refused}
 use Rattle.serf_draw.specs.DrawOptions.{is_chosen, is_drawn, missing_agent, named}
 use Rattle.serf_draw.specs.Label.{action_words, label_of}
-use Rattle.serf_draw.specs.Merges.{passed_over, times_brought}
+use Rattle.serf_draw.specs.Merges.{is_held_back, passed_over, carried_times}
 
 abbrev pub tone_of : Answer → Tone
 tone_of (answers.Ignored reason) = Ignored
@@ -96,17 +96,17 @@ abbrev pub merged_events : Option (List ℕ) → Action → List EventLine → L
 merged_events name (actions.Of agent (acts.Merge packet join)) events = named name events
 merged_events name _ events = []
 
--- a merge that carried events and passed over all of them changed nothing
-abbrev pub row_tone : Answer → List ℕ → Tone
-row_tone answer passed = if length passed == 0 then tone_of answer else Ignored
+-- nothing was handed out by a merge that passed over all events that it carried, nor for a query that was held back
+abbrev pub row_tone : Answer → Bool → List ℕ → Tone
+row_tone answer withheld passed = if (length passed == 0) && not withheld then tone_of answer else Ignored
 
 abbrev pub row_with : Option (List ℕ) → ℕ → ℕ → Action → List ℕ → Arrow → Option ℕ → Option ℕ → List ℕ → Line → Row
 row_with name n above action words arrow clock lowest passed line = record {
   action = n;
   above = above;
   agent = actor_of action;
-  tone = row_tone line.answer passed;
-  label = label_of words line.answer lowest (merged_events name action line.events) passed clock;
+  tone = row_tone line.answer (is_held_back line) passed;
+  label = label_of words line.answer (is_held_back line) lowest (merged_events name action line.events) passed clock;
   arrow = arrow;
   event_clock = clock;
   restarts = restarts line.answer;
@@ -116,7 +116,7 @@ row_with name n above action words arrow clock lowest passed line = record {
 -- `clock` is the agent's event clock if the action changed it, and `lowest` is the agent's minimum for events.
 abbrev pub row_of : Option (List ℕ) → ℕ → ℕ → List Packet → Action → Option (List ℕ) → Option ℕ → Option ℕ → Line → Row
 row_of name n above packets action given clock lowest line =
-    row_with name n above action (action_words action given) (arrow_of packets action) clock lowest (passed_over line.answer line.events (times_brought action given)) line
+    row_with name n above action (action_words action given) (arrow_of packets action) clock lowest (passed_over line.answer line.events (carried_times action given)) line
 
 -- the number of actions that were done, the cluster after them, the packets that were sent, and a row for each action
 -- that is drawn

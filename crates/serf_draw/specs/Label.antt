@@ -1,5 +1,5 @@
 -- The label of an action.
-use Rattle.std.specs.Prelude.{ℕ, ◌==◌, ◌++◌, ◌-◌, nat_lt, if◌then◌else◌, List, [], length, take, codes, decimal, Option, Some, None, Result, Ok, Err, slice_get}
+use Rattle.std.specs.Prelude.{ℕ, Bool, ◌==◌, ◌++◌, ◌-◌, nat_lt, if◌then◌else◌, List, [], length, take, codes, decimal, Option, Some, None, Result, Ok, Err, slice_get}
 use Rattle.serf_wire.specs.declared.error.WireError.{WireError}
 use Rattle.serf_wire.specs.Decoded.{decoded}
 use Rattle.serf_wire.specs.Message.{Message, user_event, query, query_response, push_pull, foreign}
@@ -9,7 +9,7 @@ use Rattle.serf_model.specs.declared.action.Action.{Action}
 use Rattle.serf_model.specs.declared.action.Action.TheVariants as actions
 use Rattle.serf_model.specs.declared.line.Answer.{Answer}
 use Rattle.serf_model.specs.declared.line.EventLine.{EventLine}
-use Rattle.serf_draw.specs.Merges.{came_words, passed_words}
+use Rattle.serf_draw.specs.Merges.{result_words, passed_words}
 
 -- a text of at most 12 bytes, or the first 8 bytes of a longer text and its length
 unfoldable pub short : List ℕ → List ℕ
@@ -27,7 +27,7 @@ at_time time = codes "@" ++ decimal time ++ codes " "
 abbrev pub message_words : ℕ → Result Message WireError → List ℕ
 message_words n (Ok (user_event e)) = texts e.name e.payload ++ at_time e.time
 message_words n (Ok (query q)) = codes "query " ++ texts q.name q.payload ++ at_time q.time
-message_words n (Ok (query_response r)) = codes "answer " ++ at_time r.time
+message_words n (Ok (query_response r)) = codes "answer of " ++ short r.from ++ codes " " ++ at_time r.time
 message_words n (Ok (push_pull m)) = codes "state " ++ at_time m.event_clock
 message_words n (Ok (foreign kind)) = codes "type " ++ decimal kind ++ codes " "
 message_words n (Err error) = decimal n ++ codes " bytes "
@@ -86,13 +86,13 @@ cut_to n text = if nat_lt n (length text) then take (n - 2) text ++ codes ".." e
 unfoldable pub joined : List ℕ → List ℕ → List ℕ
 joined front end = cut_to (72 - length end) front ++ end
 
--- the outcome of an action: its answer, followed by the first two of the events that a merge handed out, or by the
--- number of events that it passed over
-unfoldable pub outcome_words : Answer → Option ℕ → List EventLine → List ℕ → List ℕ
-outcome_words answer lowest events passed = came_words answer lowest ++ first_two events ++ passed_words passed lowest
+-- the outcome of an action: its answer, or that the filters of a query held it back; then the first two of the events
+-- that a merge handed out, or the number of events that it passed over
+unfoldable pub outcome_words : Answer → Bool → Option ℕ → List EventLine → List ℕ → List ℕ
+outcome_words answer withheld lowest events passed = result_words answer withheld lowest ++ first_two events ++ passed_words passed lowest
 
 -- The label begins with `words` and the outcome. It ends with the number of further events that were handed out, and
 -- with the agent's event clock, if the action changed it.
-unfoldable pub label_of : List ℕ → Answer → Option ℕ → List EventLine → List ℕ → Option ℕ → List ℕ
-label_of words answer lowest events passed clock =
-    joined (words ++ outcome_words answer lowest events passed) (count_words (length events - 2) ++ clock_words clock)
+unfoldable pub label_of : List ℕ → Answer → Bool → Option ℕ → List EventLine → List ℕ → Option ℕ → List ℕ
+label_of words answer withheld lowest events passed clock =
+    joined (words ++ outcome_words answer withheld lowest events passed) (count_words (length events - 2) ++ clock_words clock)

@@ -11,7 +11,7 @@ use Rattle.serf_draw.specs.declared.rows.Rows.{Rows}
 use Rattle.serf_draw.specs.DrawOptions.{names}
 use Rattle.serf_draw.specs.Drawing.{IsDrawn, arrow_of, clock_in, drawing_of}
 use Rattle.serf_draw.specs.Label.{action_words}
-use Rattle.serf_draw.specs.Merges.{times_brought}
+use Rattle.serf_draw.specs.Merges.{carried_times}
 
 -- the selected actions of these are drawn
 abbrev pub draws : DrawOptions → Rows → List Config → List Action → List ℕ → Type 0
@@ -22,7 +22,7 @@ pub record IsFound (options : DrawOptions) (c : Cluster) (packets : List Packet)
   pub words : found.words.items ≡ action_words action (packet_given c.sent action)
   pub named : found.is_named ≡ names options.event action (packet_given c.sent action)
   pub clock : found.clock ≡ clock_in c (actor_of action)
-  pub times : found.times.items ≡ times_brought action (packet_given c.sent action)
+  pub times : found.times.items ≡ carried_times action (packet_given c.sent action)
   pub arrow : found.arrow ≡ arrow_of packets action
 
 abbrev pub found_by : DrawOptions → Rows → Found → List Config → List Action → Action → List ℕ → Type 0

@@ -15,21 +15,22 @@ use serf_wire::Bytes;
 use std::alloc::{AllocError, Global};
 use thiserror::Error;
 
-/// Why no picture could be made of a text.
+/// The reason why no picture of a run could be made.
 #[derive(Clone, Copy, Debug, Drop, Error, PartialEq, Eq)]
 pub enum DrawError {
-    /// The first faulty line of the schedule, counted from 1, and what is wrong with it.
+    /// The number (counted from 1) of the first faulty line in the schedule, and the cause of the error.
     #[error("line {line} of the schedule is bad: {cause}")]
     BadLine { line: u64, cause: Cause },
-    /// The first agent in the options that the schedule doesn't have, and how many agents it has. They are numbered
-    /// from 0.
+    /// The number of the first agent in the options that the schedule doesn't contain, and the number of agents in the
+    /// schedule. Agents are numbered from 0.
     #[error("the schedule has no agent number {agent}: agents are numbered from 0, and it has {count}")]
     NoAgent { agent: u64, count: u64 },
     #[error("out of memory")]
     OutOfMemory,
 }
 
-/// Returns the senders of those `packets` that no agent received, if the actions that sent them are drawn.
+/// Returns the senders of the packets in `packets` that no agent received and that were sent by an action that is
+/// drawn.
 fn lost_of(alloc: Global, packets: &[Packet]) -> Result<Vec<Sender>, AllocError>
     ensures { IfOk result (λ lost. lost.items ≡ lost_in packets.now) }
 {
@@ -40,7 +41,7 @@ fn lost_of(alloc: Global, packets: &[Packet]) -> Result<Vec<Sender>, AllocError>
         .collect(alloc)
 }
 
-/// Adds the lane of agent number `agent`, which has the settings `config`, if `options` select this agent.
+/// If `options` select agent number `agent`, whose settings are `config`, adds the agent's lane.
 fn add_lane(
     alloc: Global,
     lanes: &mut Vec<Lane>,
@@ -59,7 +60,7 @@ fn add_lane(
     Ok(())
 }
 
-/// Returns the lanes of the agents that `options` select. `configs` has the settings of all agents.
+/// Returns the lanes of the agents that `options` select. `configs` contains the settings of all agents.
 fn lanes_of(
     alloc: Global,
     configs: &[Config],
@@ -100,8 +101,8 @@ fn picture_of<T: Watch>(
     Ok(Picture { lanes, rows, lost })
 }
 
-/// Returns the picture of the run of `schedule`, or `NoAgent` if `options` name an agent that the schedule doesn't
-/// have.
+/// Returns the picture of the run of `schedule`, or the error `NoAgent` if `options` name an agent that the schedule
+/// doesn't contain.
 fn picture_chosen<T: Watch>(
     alloc: Global,
     schedule: Schedule,
@@ -122,10 +123,10 @@ fn picture_chosen<T: Watch>(
 
 /// Returns the picture of the run of the schedule in `text`, with the parts that `options` select.
 ///
-/// It fails with `BadLine` exactly if a line is faulty, and names the first of these lines, as [`serf_replay::replay`]
-/// does. If no line is faulty, it fails with `NoAgent` exactly if the options name an agent that the schedule doesn't
-/// have, and names the first of these agents. It fails with `OutOfMemory` if memory can't be allocated. `watch` is
-/// called for each action.
+/// The function fails with `BadLine` if and only if a line is faulty, and like the error of [`serf_replay::replay`],
+/// this error names the first faulty line. If no line is faulty, the function fails with `NoAgent` if and only if the
+/// options name an agent that the schedule doesn't contain, and the error names the first of these agents. The function
+/// fails with `OutOfMemory` if memory runs out. The function calls `watch` for each action.
 pub fn draw_picture<T: Watch>(
     alloc: Global,
     text: &[u8],

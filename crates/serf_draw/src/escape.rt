@@ -8,8 +8,9 @@ use crate::filled::write_each;
 use std::alloc::AllocError;
 use std::slice;
 
-/// Returns the escaped form of a byte: an entity for `&`, `<`, `>` and both quotes, the entity of the replacement
-/// character for a byte that isn't printable ASCII, and otherwise the byte itself.
+/// Returns the escaped form of a byte. For `&`, `<`, `>` and both quotes, the escaped form is an entity. For a byte
+/// that isn't printable ASCII, the escaped form is the entity of the replacement character. Any other byte is returned
+/// unchanged.
 fn escaped(byte: &u8) -> &[u8]
     ensures { result.now ≡ escaped_byte byte.now }
 {
@@ -37,18 +38,18 @@ fn write_escaped_byte(out: &mut Vec<u8>, byte: &u8) -> Result<(), AllocError>
     out.extend_from_slice(escaped(byte))
 }
 
-/// Appends arbitrary bytes, escaped so that they stay inside their text. Each byte becomes one character of the
-/// picture. After an `AllocError`, which is returned if memory can't be allocated, `out` may have a prefix of the
-/// escaped text.
+/// Appends arbitrary bytes, escaped so that no byte can end the text that contains it. Each byte becomes one character
+/// in the picture. If memory runs out (`AllocError`), only a prefix of the escaped text may have been appended to
+/// `out`.
 pub fn write_escaped(out: &mut Vec<u8>, text: &[u8]) -> Result<(), AllocError>
     ensures { OnOk result (out.new.items ≡ out.old.items ++ escape text.now) }
 {
     write_each(out, text, write_escaped_byte)
 }
 
-/// Escaped text can't begin or end a tag or a quoted value: it contains no `<`, no `>` and no quote, and nothing but
-/// printable ASCII. By definition, each `&` in it begins one of six entities. This function does nothing; its contract
-/// is the law.
+/// States that escaped text can't begin or end a tag or a quoted value, because the text consists of printable ASCII
+/// and contains no `<`, no `>` and no quote. By definition, each `&` in an escaped text begins one of six entities.
+/// This function does nothing; its contract is the law.
 #[tactic(auto, using(crate::proofs::EscapeLemmas::all_safe))]
 pub fn escape_laws()
     ensures safe { (text : List ℕ) → list_all is_safe (escape text) ≡ true }

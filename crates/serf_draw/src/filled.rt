@@ -1,4 +1,4 @@
-//! Puts texts together, either from items one after another, or by filling the blanks of a template.
+//! Puts texts together, either by appending items one after another, or by filling the blanks of a template.
 
 ghost use Rattle.std.specs.List.{flat_map};
 ghost use Rattle.std.specs.Prelude.{◌≡◌, ◌++◌, ℕ, List, OnOk};
@@ -13,27 +13,28 @@ use crate::svg::{write_label_place, write_place};
 use serf_text::{TemplatePart, write_number};
 use std::alloc::AllocError;
 
-/// What fills a blank of a template in a picture.
+/// A part that fills a blank of a template in a picture.
 #[derive(Clone, Copy)]
 pub(crate) enum PicturePart<'a> {
-    /// These bytes, unchanged.
+    /// The bytes of a text, which are written unchanged.
     Text(&'a [u8]),
     Number(u64),
-    /// These bytes, or if there are too many, their beginning and their number.
+    /// The bytes of a text. If there are too many bytes, only their beginning and their number are written.
     Short(&'a [u8]),
-    /// These bytes, escaped for an SVG file.
+    /// The bytes of a text, which are escaped for an SVG file.
     Escaped(&'a [u8]),
-    /// These bytes, coded for Mermaid.
+    /// The bytes of a text, which are coded for Mermaid.
     Coded(&'a [u8]),
-    /// The middle of this agent's lane among these lanes, on the line of the row that has this number of rows above it.
+    /// The middle of an agent's lane on the line of a row. The values are the lanes, the number of the agent, and the
+    /// number of rows above this row.
     Place(&'a [Lane], Option<u64>, u64),
-    /// The place at which all labels begin, to the right of these lanes.
+    /// The place at which all labels begin, to the right of the lanes.
     LabelPlace(&'a [Lane]),
-    /// This agent's participant. All agents without a lane among these lanes share one participant.
+    /// The participant of an agent. All agents without a lane in the list of lanes share one participant.
     Participant(&'a [Lane], Option<u64>),
 }
 
-/// A part fills its blank with what the function of its kind writes.
+/// For each kind of part, a function writes the text that fills the blank.
 impl TemplatePart for PicturePart<'_> {
     ghost use Rattle.serf_draw.specs.Filled.{part_text};
 
@@ -53,7 +54,7 @@ impl TemplatePart for PicturePart<'_> {
     }
 }
 
-/// Appends `number` between two texts.
+/// Appends a text, then `number`, and then another text.
 #[tactic(auto, unfolding(crate::specs::Svg::between))]
 pub(crate) fn write_between(
     out: &mut Vec<u8>,
@@ -69,7 +70,7 @@ pub(crate) fn write_between(
     out.extend_from_slice(following)
 }
 
-/// Appends each of `items` as `put` writes it, one after another.
+/// Calls `put` for each item in `items`, in order. The function `put` appends the text of an item.
 pub(crate) fn write_each<T, F: Fn(&mut Vec<u8>, &T) -> Result<(), AllocError>>(
     out: &mut Vec<u8>,
     items: &[T],
@@ -87,8 +88,8 @@ pub(crate) fn write_each<T, F: Fn(&mut Vec<u8>, &T) -> Result<(), AllocError>>(
     Ok(())
 }
 
-/// Appends each of `items` as `put` writes it next to `lanes`, one after another.
-pub(crate) fn write_each_beside<T, F: Fn(&mut Vec<u8>, &[Lane], &T) -> Result<(), AllocError>>(
+/// Calls `put` with `lanes` for each item in `items`, in order. The function `put` appends the text of an item.
+pub(crate) fn write_each_with_lanes<T, F: Fn(&mut Vec<u8>, &[Lane], &T) -> Result<(), AllocError>>(
     out: &mut Vec<u8>,
     lanes: &[Lane],
     items: &[T],

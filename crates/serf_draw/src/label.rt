@@ -6,7 +6,7 @@ ghost use Rattle.std.specs.Option.{option_copied};
 ghost use Rattle.serf_wire.specs.Lists.{events_left, slot_of_view, slots_left};
 ghost use Rattle.serf_wire.specs.Message.{message_of};
 ghost use Rattle.serf_draw.specs.Label.{action_words, clock_words, count_words, cut_to, event_after, first_two, joined as joined_words, label_of, message_words, outcome_words, packet_words, short};
-ghost use Rattle.serf_draw.specs.Merges.{below_words, came_words, passed_over as passed_over_by, passed_words, slot_times, slots_times, times_brought as brought_by, times_given};
+ghost use Rattle.serf_draw.specs.Merges.{below_words, answer_words, result_words, passed_over as passed_over_by, passed_words, slot_times, slots_times, carried_times as brought_by, times_given};
 ghost use Rattle.serf_draw.specs.Svg.{label_columns as columns_of_labels, longest as longest_of};
 
 use crate::filled::{PicturePart, write_between};
@@ -23,10 +23,10 @@ const LABEL_BYTES: usize = 72;
 /// The maximum length, in bytes, of a text that is written in full.
 const WHOLE_BYTES: usize = 12;
 
-/// The number of bytes that are written of a longer text.
+/// The number of bytes that are written from the beginning of a longer text.
 const FRONT_BYTES: usize = 8;
 
-/// Appends a text, or if it is long, its beginning and its length.
+/// Appends a text. If the text is long, the function appends only its beginning and its length.
 #[tactic(auto, unfolding(crate::specs::Label::short, crate::specs::Svg::between))]
 pub(crate) fn write_short(out: &mut Vec<u8>, text: &[u8]) -> Result<(), AllocError>
     ensures { OnOk result (out.new.items ≡ out.old.items ++ short text.now) }
@@ -38,7 +38,7 @@ pub(crate) fn write_short(out: &mut Vec<u8>, text: &[u8]) -> Result<(), AllocErr
     write_between(out, b"..(", text.len() as u64, b")")
 }
 
-/// Returns a name, or if it is long, its beginning and its length.
+/// Returns a name. If the name is long, the function returns only its beginning and its length.
 pub(crate) fn short_name(alloc: Global, name: &[u8]) -> Result<Vec<u8>, AllocError>
     ensures { IfOk result (λ text. text.items ≡ short name.now) }
 {
@@ -47,7 +47,8 @@ pub(crate) fn short_name(alloc: Global, name: &[u8]) -> Result<Vec<u8>, AllocErr
     Ok(text)
 }
 
-/// Appends the contents of `message`: its texts and its time. `length` is the length of its packet in bytes.
+/// Appends the contents of `message`, which are its texts and its time. `length` is the length in bytes of the packet
+/// that contains the message.
 #[tactic(auto, unfolding(crate::specs::Label::texts, crate::specs::Label::at_time))]
 fn write_message_words(
     out: &mut Vec<u8>,
@@ -75,7 +76,12 @@ fn write_message_words(
             write_template(out, b"query ~ ~ @~ ", &[name, payload, time])
         }
         Message::QueryResponse(answer) => {
-            write_template(out, b"answer @~ ", &[PicturePart::Number(answer.time)])
+            let from = PicturePart::Short(answer.from);
+            write_template(
+                out,
+                b"answer of ~ @~ ",
+                &[from, PicturePart::Number(answer.time)],
+            )
         }
         Message::PushPull(state) => {
             write_template(out, b"state @~ ", &[PicturePart::Number(state.event_clock)])
@@ -86,7 +92,7 @@ fn write_message_words(
     }
 }
 
-/// Appends the contents of `packet`, or its length in bytes if it isn't a message.
+/// Appends the contents of `packet`, or the packet's length in bytes if the packet isn't a message.
 fn write_packet_words(out: &mut Vec<u8>, packet: &[u8]) -> Result<(), AllocError>
     ensures { OnOk result (out.new.items ≡ out.old.items ++ packet_words packet.now) }
 {
@@ -100,7 +106,8 @@ fn write_packet_words(out: &mut Vec<u8>, packet: &[u8]) -> Result<(), AllocError
     }
 }
 
-/// Appends what `action` does. `given` is the packet that the action passes to its agent, if there is one.
+/// Appends a description of `action`. `given` is the packet that the action passes to its agent, or `None` if there is
+/// no such packet.
 #[tactic(auto, unfolding(crate::specs::Label::texts))]
 fn write_action_words(
     out: &mut Vec<u8>,
@@ -135,8 +142,8 @@ fn write_action_words(
     }
 }
 
-/// Returns the first words of the label of `action`. `given` is the packet that the action passes to its agent, if
-/// there is one.
+/// Returns the words with which the label of `action` begins. `given` is the packet that the action passes to its
+/// agent, or `None` if there is no such packet.
 pub(crate) fn first_words(
     alloc: Global,
     action: &Action,
@@ -150,7 +157,7 @@ pub(crate) fn first_words(
     Ok(out)
 }
 
-/// Adds `time` once for each of `events`.
+/// Adds `time` to `times` once for each event in `events`.
 fn add_times(times: &mut Vec<u64>, time: u64, events: EventViews) -> Result<(), AllocError>
     ensures { OnOk result (times.new.items ≡ times.old.items
         ++ flat_map (λ e. time ∷ []) (events_left events.entry)) }
@@ -161,7 +168,7 @@ fn add_times(times: &mut Vec<u64>, time: u64, events: EventViews) -> Result<(), 
     Ok(())
 }
 
-/// Adds the times of the events that `slot` holds.
+/// Adds the times of the events in `slot` to `times`.
 fn add_slot_times(times: &mut Vec<u64>, slot: &SlotView) -> Result<(), AllocError>
     ensures { OnOk result (times.new.items ≡ times.old.items
         ++ slot_times (slot_of_view slot.now)) }
@@ -176,7 +183,7 @@ fn add_slot_times(times: &mut Vec<u64>, slot: &SlotView) -> Result<(), AllocErro
     }
 }
 
-/// Returns the times of the events that `slots` hold, one for each event.
+/// Returns the times of the events in `slots`, with one time for each event.
 fn times_of(alloc: Global, slots: SlotViews) -> Result<Vec<u64>, AllocError>
     ensures { IfOk result (λ times. times.items ≡ slots_times (slots_left slots.entry)) }
 {
@@ -187,7 +194,7 @@ fn times_of(alloc: Global, slots: SlotViews) -> Result<Vec<u64>, AllocError>
     Ok(times)
 }
 
-/// Returns the times of the events in the packet `given` if it contains a state. Any other packet has none.
+/// Returns the times of the events in the packet `given` if the packet contains a state, and no times otherwise.
 fn times_in(alloc: Global, given: Option<&[u8]>) -> Result<Vec<u64>, AllocError>
     ensures { IfOk result (λ times. times.items ≡ times_given (option_copied given.entry)) }
 {
@@ -200,9 +207,9 @@ fn times_in(alloc: Global, given: Option<&[u8]>) -> Result<Vec<u64>, AllocError>
     }
 }
 
-/// Returns the times of the events that `action` merges if it is a merge, from the packet `given`. Any other action has
-/// none.
-pub(crate) fn times_brought(
+/// If `action` is a merge, returns the times of the events in `given`, the packet that is merged. For any other action,
+/// the function returns no times.
+pub(crate) fn carried_times(
     alloc: Global,
     action: &Action,
     given: Option<&[u8]>,
@@ -219,8 +226,8 @@ pub(crate) fn times_brought(
     }
 }
 
-/// Returns the times of the events that a merge passed over: all of `times` if it handed out no event, and otherwise
-/// none.
+/// Returns the times of the events that a merge passed over. If the action is a merge that handed out no event, the
+/// function returns all of `times`, and otherwise it returns no times.
 pub(crate) fn passed_over<'a>(answer: Answer, events: &[EventLine], times: &'a [u64]) -> &'a [u64]
     ensures { result.now ≡ passed_over_by answer events.now times.now }
 {
@@ -230,14 +237,14 @@ pub(crate) fn passed_over<'a>(answer: Answer, events: &[EventLine], times: &'a [
     }
 }
 
-/// Returns whether one of `times` is at least `lowest`.
+/// Returns whether one of the times in `times` is at least `lowest`.
 fn is_any_from(times: &[u64], lowest: u64) -> bool
     ensures { result ≡ list_any (λ t. nat_le lowest t) times.now }
 {
     times.iter().any(|time| lowest <= *time)
 }
 
-/// Appends `lowest`, the agent's minimum for events, if all of `times` are below it.
+/// If all times in `times` are below `lowest`, the agent's minimum for events, appends this minimum.
 #[tactic(auto, unfolding(crate::specs::Merges::below_min))]
 fn write_below(out: &mut Vec<u8>, times: &[u64], lowest: Option<u64>) -> Result<(), AllocError>
     ensures { OnOk result (out.new.items ≡ out.old.items ++ below_words times.now lowest) }
@@ -251,8 +258,8 @@ fn write_below(out: &mut Vec<u8>, times: &[u64], lowest: Option<u64>) -> Result<
     write_template(out, b", below ~", &[PicturePart::Number(lowest)])
 }
 
-/// Appends how many events a merge passed over, whose times are `times`. If `lowest` is the reason for all of them, it
-/// appends this as well.
+/// Appends the number of events that a merge passed over. `times` contains the times of these events. If all times in
+/// `times` are below `lowest`, the agent's minimum for events, the function appends this minimum as well.
 fn write_passed_over(
     out: &mut Vec<u8>,
     times: &[u64],
@@ -271,9 +278,13 @@ fn write_passed_over(
     write_below(out, times, lowest)
 }
 
-/// Appends the words for `answer`, the answer to an action. `lowest` is the minimum for events of its agent.
-fn write_came(out: &mut Vec<u8>, answer: Answer, lowest: Option<u64>) -> Result<(), AllocError>
-    ensures { OnOk result (out.new.items ≡ out.old.items ++ came_words answer lowest) }
+/// Appends the words for `answer`, the answer to an action. `lowest` is the agent's minimum for events.
+fn write_answer_words(
+    out: &mut Vec<u8>,
+    answer: Answer,
+    lowest: Option<u64>,
+) -> Result<(), AllocError>
+    ensures { OnOk result (out.new.items ≡ out.old.items ++ answer_words answer lowest) }
 {
     match answer {
         Answer::Restarted { .. } => match lowest {
@@ -290,7 +301,24 @@ fn write_came(out: &mut Vec<u8>, answer: Answer, lowest: Option<u64>) -> Result<
     }
 }
 
-/// Appends `event`, which a merge handed out, after `sign`, or nothing if there is no event.
+/// Appends `held back` if the agent held a query back, and the words for `answer` otherwise.
+fn write_result_words(
+    out: &mut Vec<u8>,
+    answer: Answer,
+    is_held_back: bool,
+    lowest: Option<u64>,
+) -> Result<(), AllocError>
+    ensures { OnOk result (out.new.items ≡ out.old.items
+        ++ result_words answer is_held_back lowest) }
+{
+    if is_held_back {
+        out.extend_from_slice(b"held back")
+    } else {
+        write_answer_words(out, answer, lowest)
+    }
+}
+
+/// Appends `sign`, followed by `event`, which a merge handed out. If there is no event, the function appends nothing.
 #[tactic(auto, unfolding(crate::specs::Label::event_words, crate::specs::Label::texts))]
 fn write_event_after<'a>(
     out: &mut Vec<u8>,
@@ -312,7 +340,7 @@ fn write_event_after<'a>(
     write_template(out, b"~~ ~ @~", &parts)
 }
 
-/// Appends the first two of `events`, the first one after a colon, and the second one after a comma.
+/// Appends the first two events in `events`. A colon precedes the first event, and a comma precedes the second one.
 fn write_first_two(out: &mut Vec<u8>, events: &[EventLine]) -> Result<(), AllocError>
     ensures { OnOk result (out.new.items ≡ out.old.items ++ first_two events.now) }
 {
@@ -320,7 +348,7 @@ fn write_first_two(out: &mut Vec<u8>, events: &[EventLine]) -> Result<(), AllocE
     write_event_after(out, b", ", events.get(1))
 }
 
-/// Appends how many more events there are, if there are any.
+/// Appends `count`, the number of further events, unless this number is 0.
 fn write_count(out: &mut Vec<u8>, count: usize) -> Result<(), AllocError>
     ensures { OnOk result (out.new.items ≡ out.old.items ++ count_words count) }
 {
@@ -330,7 +358,7 @@ fn write_count(out: &mut Vec<u8>, count: usize) -> Result<(), AllocError>
     write_template(out, b", +~", &[PicturePart::Number(count as u64)])
 }
 
-/// Appends the agent's event clock, `clock`, or nothing if it didn't change.
+/// Appends `clock`, the agent's event clock, if the action changed this clock, and nothing otherwise.
 fn write_clock(out: &mut Vec<u8>, clock: Option<u64>) -> Result<(), AllocError>
     ensures { OnOk result (out.new.items ≡ out.old.items ++ clock_words clock) }
 {
@@ -340,7 +368,7 @@ fn write_clock(out: &mut Vec<u8>, clock: Option<u64>) -> Result<(), AllocError>
     }
 }
 
-/// Shortens `text` to `limit` bytes if it is longer, and makes it end with two full stops.
+/// If `text` is longer than `limit` bytes, shortens it to `limit` bytes, and makes it end with two full stops.
 #[tactic(auto, unfolding(crate::specs::Label::cut_to))]
 fn shorten(text: &mut Vec<u8>, limit: usize) -> Result<(), AllocError>
     ensures { OnOk result (text.new.items ≡ cut_to limit text.old.items) }
@@ -352,7 +380,8 @@ fn shorten(text: &mut Vec<u8>, limit: usize) -> Result<(), AllocError>
     Ok(())
 }
 
-/// Returns the label that consists of `front`, shortened if there isn't enough room, and of `end`.
+/// Returns the label that consists of `front` and `end`. If the two texts together are too long for a label, the
+/// function shortens `front`.
 #[tactic(auto, unfolding(crate::specs::Label::joined))]
 fn joined(front: Vec<u8>, end: &[u8]) -> Result<Bytes, AllocError>
     ensures { IfOk result (λ label. label ≡ joined_words front.items end.now) }
@@ -363,50 +392,54 @@ fn joined(front: Vec<u8>, end: &[u8]) -> Result<Bytes, AllocError>
     Ok(Bytes::from_vec(text))
 }
 
-/// Appends the words for the outcome of an action: `answer`, followed by the first two of `events`, which a merge
-/// handed out, or by the number of those that it passed over, whose times are `passed`. `lowest` is the minimum for
-/// events of its agent.
+/// Appends the words for the outcome of an action. The function first appends the words for `answer`, or states that
+/// the agent held a query back. The function then appends the first two events in `events`, which a merge handed out,
+/// or the number of events that the merge passed over. `passed` contains the times of the events that the merge passed
+/// over. `lowest` is the agent's minimum for events.
 #[tactic(auto, unfolding(crate::specs::Label::outcome_words))]
 fn write_outcome(
     out: &mut Vec<u8>,
     answer: Answer,
+    is_held_back: bool,
     lowest: Option<u64>,
     events: &[EventLine],
     passed: &[u64],
 ) -> Result<(), AllocError>
     ensures { OnOk result (out.new.items ≡ out.old.items
-        ++ outcome_words answer lowest events.now passed.now) }
+        ++ outcome_words answer is_held_back lowest events.now passed.now) }
 {
-    write_came(out, answer, lowest)?;
+    write_result_words(out, answer, is_held_back, lowest)?;
     write_first_two(out, events)?;
     write_passed_over(out, passed, lowest)
 }
 
-/// Returns the label that begins with `words` and continues with the outcome of the action. `events` are the events
-/// that a merge handed out, and `passed` has the times of those that it passed over. `lowest` is the agent's minimum
-/// for events, and `clock` is its event clock, if the action changed it.
+/// Returns the label that begins with `words` and continues with the outcome of the action. `events` contains the
+/// events that a merge handed out, and `passed` contains the times of the events that the merge passed over. `lowest`
+/// is the agent's minimum for events. `clock` is the agent's event clock if the action changed this clock, and `None`
+/// otherwise.
 #[tactic(auto, unfolding(crate::specs::Label::label_of))]
 pub(crate) fn label(
     alloc: Global,
     words: Vec<u8>,
     answer: Answer,
+    is_held_back: bool,
     lowest: Option<u64>,
     events: &[EventLine],
     passed: &[u64],
     clock: Option<u64>,
 ) -> Result<Bytes, AllocError>
-    ensures { IfOk result (λ label. label ≡ label_of words.items answer lowest events.now
-        passed.now clock) }
+    ensures { IfOk result (λ label. label ≡ label_of words.items answer is_held_back lowest
+        events.now passed.now clock) }
 {
     let mut front = words;
-    write_outcome(&mut front, answer, lowest, events, passed)?;
+    write_outcome(&mut front, answer, is_held_back, lowest, events, passed)?;
     let mut end = Vec::new(alloc);
     write_count(&mut end, events.len().saturating_sub(2))?;
     write_clock(&mut end, clock)?;
     joined(front, &end)
 }
 
-/// Returns the length of the longest label, in bytes.
+/// Returns the length in bytes of the longest label in `rows`.
 pub(crate) fn longest(rows: &[Row]) -> usize
     ensures { result ≡ longest_of rows.now }
 {
@@ -416,7 +449,7 @@ pub(crate) fn longest(rows: &[Row]) -> usize
     })
 }
 
-/// Returns the number of columns that the labels need, if the longest has `longest` bytes.
+/// Returns the number of columns that the labels need when the longest label has `longest` bytes.
 pub(crate) fn label_columns(longest: usize) -> u64
     ensures { result ≡ columns_of_labels longest }
 {

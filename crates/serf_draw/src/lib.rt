@@ -1,5 +1,5 @@
-//! Draws pictures of runs, as an SVG file or as text for Mermaid. A picture has a lane for each agent, and an arrow for
-//! each packet that is passed to an agent.
+//! Draws pictures of runs, as an SVG file or as text for Mermaid. A picture contains a lane for each agent, and an
+//! arrow for each packet that is passed to an agent.
 #![tactic(auto)]
 
 mod drawing;

@@ -4,7 +4,7 @@ ghost use Rattle.std.specs.Prelude.{◌≡◌, ◌++◌, ◌==◌, ℕ, List, If
 ghost use Rattle.std.specs.List.{flat_map, list_all, list_any};
 ghost use Rattle.serf_draw.specs.Mermaid.{arrow_word as word_of, coded, coded_byte, is_coded, is_plain as is_plain_byte, mermaid_of, message_line, note_line, participant, participant_line, row_line};
 
-use crate::filled::{PicturePart, write_between, write_each, write_each_beside};
+use crate::filled::{PicturePart, write_between, write_each, write_each_with_lanes};
 use crate::label::short_name;
 use crate::picture::{Arrow, Lane, Picture, Row, Tone};
 use serf_text::write_template;
@@ -23,7 +23,7 @@ fn is_plain(byte: u8) -> bool
         || byte == b'_'
 }
 
-/// Appends a byte: unchanged if it is plain, and otherwise as an entity code.
+/// Appends `byte` unchanged if it is plain, and as an entity code otherwise.
 #[tactic(auto, unfolding(crate::specs::Svg::between))]
 fn write_coded_byte(out: &mut Vec<u8>, byte: &u8) -> Result<(), AllocError>
     ensures { OnOk result (out.new.items ≡ out.old.items ++ coded_byte byte.now) }
@@ -38,29 +38,30 @@ fn write_coded_byte(out: &mut Vec<u8>, byte: &u8) -> Result<(), AllocError>
     }
 }
 
-/// Appends a text, coded for Mermaid.
+/// Codes `text` for Mermaid, and appends the result.
 pub(crate) fn write_coded(out: &mut Vec<u8>, text: &[u8]) -> Result<(), AllocError>
     ensures { OnOk result (out.new.items ≡ out.old.items ++ coded text.now) }
 {
     write_each(out, text, write_coded_byte)
 }
 
-/// A coded text contains only letters, digits, spaces, full stops, `@`, `_`, `#` and `;`: no line break, no `%`, no `:`
-/// and no `-`. By definition, each `#` and each `;` in it belongs to an entity code. This function does nothing; its
-/// contract is the law.
+/// States that a coded text contains only letters, digits, spaces, full stops, `@`, `_`, `#` and `;`, and therefore no
+/// line break, no `%`, no `:` and no `-`. By definition, each `#` and each `;` in a coded text belongs to an entity
+/// code. This function does nothing; its contract is the law.
 #[tactic(auto, using(crate::proofs::CodedLemmas::all_coded))]
 pub fn coded_laws()
     ensures coded { (text : List ℕ) → list_all is_coded (coded text) ≡ true }
 {}
 
-/// Returns whether agent number `agent` has a lane among `lanes`.
+/// Returns whether agent number `agent` has a lane in `lanes`.
 fn has_lane(lanes: &[Lane], agent: u64) -> bool
     ensures { result ≡ list_any (λ l. l.agent == agent) lanes.now }
 {
     lanes.iter().any(|lane| lane.agent == agent)
 }
 
-/// Appends the participant of an agent: that of its lane, or `outside` if it has none among `lanes`.
+/// Appends the participant of an agent. An agent with a lane in `lanes` has the participant of this lane, and any other
+/// agent has the participant `outside`.
 #[tactic(auto, unfolding(crate::specs::Svg::between))]
 pub(crate) fn write_participant(
     out: &mut Vec<u8>,
@@ -97,7 +98,7 @@ fn arrow_word(tone: Tone) -> &'static [u8]
     }
 }
 
-/// Appends the arrow of `row`, which begins at agent number `sender`, and its label.
+/// Appends the arrow of `row`, together with the row's label. The arrow begins at agent number `sender`.
 #[tactic(auto, unfolding(crate::specs::Mermaid::message_line, crate::specs::Mermaid::words_of, crate::specs::Svg::between))]
 fn write_message<'a>(
     out: &mut Vec<u8>,
@@ -117,7 +118,7 @@ fn write_message<'a>(
     write_template(out, b"~~~: ~ ~\n", &parts)
 }
 
-/// Appends the label of `row` as a note over the lane of its agent.
+/// Appends the label of `row` as a note over the lane of the row's agent.
 #[tactic(auto, unfolding(crate::specs::Mermaid::note_line, crate::specs::Mermaid::words_of, crate::specs::Svg::between))]
 fn write_note<'a>(out: &mut Vec<u8>, lanes: &'a [Lane], row: &'a Row) -> Result<(), AllocError>
     ensures { OnOk result (out.new.items ≡ out.old.items ++ note_line lanes.now row.now) }
@@ -130,7 +131,7 @@ fn write_note<'a>(out: &mut Vec<u8>, lanes: &'a [Lane], row: &'a Row) -> Result<
     write_template(out, b"Note over ~: ~ ~\n", &parts)
 }
 
-/// Appends the line for a row, which is a note or a message.
+/// Appends the line for `row`, which is either a note or a message.
 fn write_row_line(out: &mut Vec<u8>, lanes: &[Lane], row: &Row) -> Result<(), AllocError>
     ensures { OnOk result (out.new.items ≡ out.old.items ++ row_line lanes.now row.now) }
 {
@@ -141,12 +142,12 @@ fn write_row_line(out: &mut Vec<u8>, lanes: &[Lane], row: &Row) -> Result<(), Al
     }
 }
 
-/// Returns a picture as the text of a sequence diagram in Mermaid's language. It has a participant for each lane, a
-/// message for each packet that is passed to an agent, from the sender of the packet, and a note for each other action.
-/// Packets that no agent received aren't shown.
+/// Returns a picture as the text of a sequence diagram in Mermaid's language. The diagram contains a participant for
+/// each lane. For each packet that is passed to an agent, the diagram contains a message from the packet's sender, and
+/// for each other action, a note. The diagram doesn't show packets that no agent received.
 ///
-/// Names and labels are coded, so that no byte of them can be mistaken for Mermaid's language. It returns an
-/// `AllocError` only if there is no memory for the text.
+/// Names and labels are coded, so that no byte in a name or a label can be mistaken for Mermaid's language. The
+/// function returns an `AllocError` only if there isn't enough memory for the text.
 #[tactic(auto, unfolding(crate::specs::Mermaid::mermaid_of))]
 pub fn mermaid_text(alloc: Global, picture: &Picture) -> Result<Vec<u8>, AllocError>
     ensures { IfOk result (λ text. text.items ≡ mermaid_of picture.now) }
@@ -160,6 +161,6 @@ pub fn mermaid_text(alloc: Global, picture: &Picture) -> Result<Vec<u8>, AllocEr
         lanes,
         |out, lane| write_participant_line(alloc, out, lane),
     )?;
-    write_each_beside(&mut out, lanes, rows, write_row_line)?;
+    write_each_with_lanes(&mut out, lanes, rows, write_row_line)?;
     Ok(out)
 }

@@ -1,4 +1,4 @@
-//! Selects the part of a run that is drawn.
+//! Selects which part of a run is drawn.
 
 ghost use Rattle.std.specs.Prelude.{◌≡◌, ◌==◌, ◌&&◌, ◌||◌, filter};
 ghost use Rattle.std.specs.List.{list_any};
@@ -9,13 +9,13 @@ ghost use Rattle.serf_draw.specs.DrawOptions.{hands_out, has_name, is_chosen, is
 use serf_model::{Act, Action, Answer, EventLine, EventLines, Line};
 use serf_wire::{Bytes, Message, decode};
 
-/// Selects the actions that are drawn. An action has to meet all of these conditions:
+/// Selects the actions that are drawn. An action is drawn if it meets all of these conditions:
 ///
-/// - Its number is from `from` to `to`, counted from 1.
-/// - If any `agents` are listed, it is an action of one of them.
-/// - If `taken` is set, it was neither ignored nor refused, it isn't an injection, and it isn't a merge that passed
+/// - The action's number, counted from 1, is at least `from` and at most `to`.
+/// - If the list `agents` isn't empty, the action is an action of one of the listed agents.
+/// - If `taken` is set, the action was neither ignored nor refused, isn't an injection, and isn't a merge that passed
 ///   over all its events.
-/// - If `event` has a name, the action fires, injects, delivers or hands out an event of this name.
+/// - If `event` contains a name, the action fires, injects, delivers or hands out an event of this name.
 #[derive(Drop)]
 pub struct DrawOptions {
     pub agents: Vec<u64>,
@@ -52,21 +52,21 @@ fn is_event_of(name: &[u8], packet: &[u8]) -> bool
     }
 }
 
-/// Returns whether `event`, which was handed out, is called `name`.
+/// Returns whether `event`, an event that was handed out, is called `name`.
 fn is_named(name: &[u8], event: &EventLine) -> bool
     ensures { result ≡ has_name name.now event.now }
 {
     event.name.as_slice() == name
 }
 
-/// Returns whether one of these events is called `name`.
+/// Returns whether one of the events in `events` is called `name`.
 fn any_named(name: &[u8], events: &[EventLine]) -> bool
     ensures { result ≡ list_any (has_name name.now) events.now }
 {
     events.iter().any(|event| is_named(name, event))
 }
 
-/// Removes the events that aren't called `name`. Allocates no memory.
+/// Removes all events that aren't called `name` from `events`. Allocates no memory.
 fn keep_named(name: &[u8], events: &mut Vec<EventLine>)
     ensures { events.new.items ≡ filter (has_name name.now) events.old.items }
 {
@@ -84,8 +84,9 @@ impl DrawOptions {
         is_among(self.agents.as_slice(), agent)
     }
 
-    /// Returns whether action number `action` is in the range, and is an action of an agent that is drawn. Its agent is
-    /// number `agent`, or `None` for an injection, which is drawn only if no agents are named. Allocates no memory.
+    /// Returns whether action number `action` is in the range, and is an action of an agent that has a lane. `agent` is
+    /// the number of the agent that acts, or `None` for an injection. An injection is drawn only if the options list no
+    /// agents. Allocates no memory.
     fn shows(&self, action: u64, agent: Option<u64>) -> bool
         ensures { result ≡ shows self.now.agents.items self.now.from self.now.to action agent }
     {
@@ -98,16 +99,16 @@ impl DrawOptions {
         }
     }
 
-    /// Returns the first agent that is named and isn't one of the `count` agents, which are numbered from 0. Allocates
-    /// no memory.
+    /// Returns the first agent in the options that the schedule doesn't contain. The schedule contains `count` agents,
+    /// which are numbered from 0. Allocates no memory.
     pub(crate) fn missing_agent(&self, count: u64) -> Option<u64>
         ensures { result ≡ missing_agent self.now.agents.items count }
     {
         self.agents.iter().copied().find(|agent| count <= *agent)
     }
 
-    /// Returns whether an action with this `answer` is drawn. `passed` has the times of the events that it passed over.
-    /// Allocates no memory.
+    /// Returns whether an action with the answer `answer` is drawn. `passed` contains the times of the events that a
+    /// merge passed over. Allocates no memory.
     fn keeps(&self, answer: Answer, passed: &[u64]) -> bool
         ensures { result ≡ is_kept self.now.taken answer passed.now }
     {
@@ -119,7 +120,7 @@ impl DrawOptions {
     }
 
     /// Returns whether `action` fires, injects or delivers a selected event. `given` is the packet that the action
-    /// passes to its agent, if there is one. Allocates no memory.
+    /// passes to its agent, or `None` if there is no such packet. Allocates no memory.
     pub(crate) fn names(&self, action: &Action, given: Option<&[u8]>) -> bool
         ensures { result ≡ names self.now.event action.now (option_copied given.entry) }
     {
@@ -139,7 +140,7 @@ impl DrawOptions {
         }
     }
 
-    /// Returns whether one of `events` is selected. Allocates no memory.
+    /// Returns whether one of the events in `events` is selected. Allocates no memory.
     fn hands_out(&self, events: &[EventLine]) -> bool
         ensures { result ≡ hands_out self.now.event events.now }
     {
@@ -149,8 +150,9 @@ impl DrawOptions {
         }
     }
 
-    /// Returns whether `action`, whose number is `number`, is drawn. `line` is its line, `is_named` says whether it
-    /// names a selected event, and `passed` has the times of the events that it passed over. Allocates no memory.
+    /// Returns whether `action`, whose number is `number`, is drawn. `line` is the action's line in the trace,
+    /// `is_named` states whether the action names a selected event, and `passed` contains the times of the events that
+    /// a merge passed over. Allocates no memory.
     pub(crate) fn draws(
         &self,
         number: u64,
@@ -168,7 +170,7 @@ impl DrawOptions {
             && (is_named || self.hands_out(line.events.as_slice()))
     }
 
-    /// Returns those of `events` that are selected. Allocates no memory.
+    /// Returns the events in `events` that are selected. Allocates no memory.
     pub(crate) fn named(&self, events: EventLines) -> Vec<EventLine>
         ensures { result.items ≡ named self.now.event events }
     {

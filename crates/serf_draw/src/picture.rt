@@ -7,24 +7,24 @@ use serf_wire::Bytes;
 pub enum Tone {
     /// The action did what it was meant to do.
     Taken,
-    /// Its packet changed nothing.
+    /// The action's packet changed nothing.
     Ignored,
-    /// It was refused.
+    /// The action was refused.
     Refused,
 }
 
-/// The sender of a packet: the number of the action that sent it, counted from 1, and the agent that acted, or `None`
-/// if the packet was injected.
+/// The sender of a packet: the action that sent the packet, and the agent that acted. Actions are numbered from 1. If
+/// the packet was injected, the agent is `None`.
 #[derive(Clone, Copy, PartialEq, Eq)]
 pub struct Sender {
     pub agent: Option<u64>,
     pub action: u64,
-    /// The number of drawn actions before this one.
+    /// The number of drawn actions before the action that sent the packet.
     pub above: u64,
 }
 
-/// A packet that was sent: its sender, whether the action that sent it is drawn, and whether some action passed it to
-/// an agent.
+/// A packet that was sent: its sender, whether the sending action is drawn, and whether some action passed the packet
+/// to an agent.
 #[derive(Clone, Copy, PartialEq, Eq)]
 pub struct Packet {
     pub sender: Sender,
@@ -37,44 +37,46 @@ pub struct Packet {
 pub enum Arrow {
     /// The action passes no packet to its agent.
     NoPacket,
-    /// It names a packet that hasn't been sent yet.
+    /// The action names a packet that hasn't been sent yet.
     Unsent,
     /// The packet was sent by this sender.
     From(Sender),
 }
 
-/// An action in a picture.
+/// A row of a picture, which shows one action.
 #[derive(Drop)]
 pub struct Row {
     /// The action's number, counted from 1.
     pub action: u64,
-    /// The number of rows above it.
+    /// The number of rows above this row.
     pub above: u64,
-    /// The agent that acts, or `None` if a packet is injected.
+    /// The agent that acts, or `None` if the action injects a packet.
     pub agent: Option<u64>,
     pub tone: Tone,
-    /// What was done, and the outcome. It has at most 72 bytes, of any kind.
+    /// The words that describe the action and its outcome. The label contains at most 72 bytes, which may have any
+    /// values.
     pub label: Bytes,
     pub arrow: Arrow,
-    /// The agent's event clock, if the action changed it.
+    /// The agent's event clock if the action changed this clock, and `None` otherwise.
     pub event_clock: Option<u64>,
-    /// Whether the agent was opened again.
+    /// Whether the action opened the agent again.
     pub restarts: bool,
 }
 
-/// An agent's lane, with its number and its name. At most 12 bytes of the name are shown.
+/// The lane of an agent, with the agent's number and name. The picture shows at most 12 bytes of the name.
 #[derive(Drop)]
 pub struct Lane {
     pub agent: u64,
     pub name: Bytes,
 }
 
-/// A picture of a run: the lanes of its agents, the rows of those actions that are drawn, and the packets of these
-/// actions that no agent received.
+/// A picture of a run: the lanes of the agents, the rows of the drawn actions, and the packets that these actions sent
+/// but no agent received.
 #[derive(Drop)]
 pub struct Picture {
     pub lanes: Vec<Lane>,
     pub rows: Vec<Row>,
-    /// The senders of the packets that no action passes to an agent, one for each packet, in the order of sending.
+    /// The senders of the packets that no action passes to an agent. The list contains one sender for each packet, in
+    /// the order in which the packets were sent.
     pub lost: Vec<Sender>,
 }

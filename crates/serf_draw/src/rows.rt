@@ -1,21 +1,22 @@
-//! Draws the rows of a run, turn by turn.
+//! Makes the rows of a picture during a run, turn by turn.
 
 ghost use Rattle.std.specs.Prelude.{◌≡◌, ◌++◌, ◌∷◌, ◌+◌, [], List, ℕ, IfOk, OnOk, false, replicate, length};
 ghost use Rattle.serf_agent.specs.declared.config.Config.{Config};
 ghost use Rattle.serf_model.specs.Cluster.{Cluster, step};
 ghost use Rattle.serf_world.specs.View.{IsViewed, TakesStep};
 ghost use Rattle.serf_draw.specs.Drawing.{Drawing, IsDrawn, arrow_of, changed, clock_in, drawn, given_by, min_in, merged_events as merged, packet_of, restarts, row_tone, row_with, shown_row};
+ghost use Rattle.serf_draw.specs.Merges.{is_held_back as held_back};
 ghost use Rattle.serf_draw.specs.Rows.{IsFound, draws};
 
-use crate::label::{first_words, label, passed_over, times_brought};
+use crate::label::{carried_times, first_words, label, passed_over};
 use crate::options::DrawOptions;
 use crate::picture::{Arrow, Packet, Row, Sender, Tone};
 use serf_model::{Act, Action, Answer, EventLine, EventLines, Line};
 use serf_world::{Turns, World};
 use std::alloc::{AllocError, Global};
 
-/// Returns the arrow of `action`, which begins at the sender of its packet. `packets` are the packets that were sent so
-/// far.
+/// Returns the arrow of `action`, which begins at the sender of the packet that the action passes to its agent.
+/// `packets` contains the packets that were sent so far.
 fn arrow(packets: &[Packet], action: &Action) -> Arrow
     ensures { result ≡ arrow_of packets.now action.now }
 {
@@ -31,9 +32,9 @@ fn arrow(packets: &[Packet], action: &Action) -> Arrow
     }
 }
 
-/// Records that the packet which `action` passes to an agent was given. Nothing changes if it passes none, or one that
-/// wasn't sent.
-fn note_packet(packets: &mut Vec<Packet>, action: &Action)
+/// Marks the packet that `action` passes to an agent as given. If the action passes no packet, or names a packet that
+/// wasn't sent, the function changes nothing.
+fn mark_given(packets: &mut Vec<Packet>, action: &Action)
     ensures { packets.new.items ≡ given_by packets.old.items action.now }
 {
     if let Action::Of {
@@ -47,11 +48,19 @@ fn note_packet(packets: &mut Vec<Packet>, action: &Action)
     }
 }
 
-/// Returns how an action ended. `passed` has the times of the events that a merge passed over.
-fn tone(answer: Answer, passed: &[u64]) -> Tone
-    ensures { result ≡ row_tone answer passed.now }
+/// Returns whether, according to `line`, the agent accepted a delivered query but didn't hand it out, because one of
+/// the query's filters excludes the agent.
+fn is_held_back(line: &Line) -> bool
+    ensures { result ≡ held_back line.now }
 {
-    if passed.is_empty() {
+    matches!(line.answer, Answer::Query) && line.handed.is_none()
+}
+
+/// Returns how an action ended. `passed` contains the times of the events that a merge passed over.
+fn tone(answer: Answer, is_held_back: bool, passed: &[u64]) -> Tone
+    ensures { result ≡ row_tone answer is_held_back passed.now }
+{
+    if passed.is_empty() && !is_held_back {
         match answer {
             Answer::Ignored(_) => Tone::Ignored,
             Answer::Refused(_) => Tone::Refused,
@@ -62,14 +71,15 @@ fn tone(answer: Answer, passed: &[u64]) -> Tone
     }
 }
 
-/// Returns whether an answer is that of a restart.
+/// Returns whether `answer` is the answer to a restart.
 fn is_restart(answer: Answer) -> bool
     ensures { result ≡ restarts answer }
 {
     matches!(answer, Answer::Restarted { .. })
 }
 
-/// Returns those of `events` that are selected, if `action` is a merge. For any other action, it returns none.
+/// If `action` is a merge, returns the events in `events` that are selected. For any other action, the function returns
+/// no events.
 fn merged_events(
     alloc: Global,
     options: &DrawOptions,
@@ -87,8 +97,8 @@ fn merged_events(
     }
 }
 
-/// Adds a packet for each of `numbers`, which `sender` sent in one action. `is_shown` says whether this action is
-/// drawn. The numbers aren't stored, because a packet's number is its index.
+/// Adds a packet for each number in `numbers`. All of these packets were sent by `sender` in one action, and `is_shown`
+/// states whether this action is drawn. The numbers themselves aren't stored, because a packet's number is its index.
 fn add_packets(
     packets: &mut Vec<Packet>,
     sender: Sender,
@@ -106,7 +116,7 @@ fn add_packets(
     packets.resize(packets.len().saturating_add(numbers.len()), packet)
 }
 
-/// Returns the event clock of agent number `agent` in the cluster `world`, and its minimum for events.
+/// Returns two values of agent number `agent` in the cluster `world`: its event clock and its minimum for events.
 #[tactic(auto, using(crate::proofs::ClockLemmas::clock_viewed, crate::proofs::ClockLemmas::min_viewed))]
 fn event_times(world: &World, agent: Option<u64>) -> (Option<u64>, Option<u64>)
     ensures clock { (c : Cluster) → IsViewed c world.now → result.0 ≡ clock_in c agent }
@@ -121,7 +131,7 @@ fn event_times(world: &World, agent: Option<u64>) -> (Option<u64>, Option<u64>)
     }
 }
 
-/// Returns the clock `now` if it differs from `before`.
+/// Returns the clock `now` if this clock is known and differs from `before`, and `None` otherwise.
 fn changed_clock(before: Option<u64>, now: Option<u64>) -> Option<u64>
     ensures { result ≡ changed before now }
 {
@@ -129,8 +139,8 @@ fn changed_clock(before: Option<u64>, now: Option<u64>) -> Option<u64>
     if before == now { None } else { Some(now) }
 }
 
-/// Makes the row of an action from its line. Its label begins with `words`, and `sender` is the sender of the packets
-/// that it sends.
+/// Makes the row for an action from the action's line. The row's label begins with `words`, and `sender` is the sender
+/// of the packets that the action sends.
 fn row(
     alloc: Global,
     options: &DrawOptions,
@@ -148,20 +158,30 @@ fn row(
         event_clock lowest passed.now line) }
 {
     let answer = line.answer;
+    let is_held_back = is_held_back(&line);
     let events = merged_events(alloc, options, action, line.into_events());
     Ok(Row {
         action: sender.action,
         above: sender.above,
         agent: action.actor(),
-        tone: tone(answer, passed),
-        label: label(alloc, words, answer, lowest, &events, passed, event_clock)?,
+        tone: tone(answer, is_held_back, passed),
+        label: label(
+            alloc,
+            words,
+            answer,
+            is_held_back,
+            lowest,
+            &events,
+            passed,
+            event_clock,
+        )?,
         arrow,
         event_clock,
         restarts: is_restart(answer),
     })
 }
 
-/// Adds `row` if it is drawn.
+/// Adds `row` to `rows` if `is_shown` is true.
 fn add_row(rows: &mut Vec<Row>, is_shown: bool, row: Row) -> Result<(), AllocError>
     ensures { OnOk result (rows.new.items ≡ rows.old.items ++ shown_row is_shown row) }
 {
@@ -171,8 +191,9 @@ fn add_row(rows: &mut Vec<Row>, is_shown: bool, row: Row) -> Result<(), AllocErr
     Ok(())
 }
 
-/// What is found before an action is done: the first words of its label, whether it names a selected event, its agent's
-/// event clock, the times of the events that a merge carries, and its arrow.
+/// The facts that are gathered before an action is carried out: the first words of the action's label, whether the
+/// action names a selected event, the agent's event clock, the times of the events that a merge carries, and the
+/// action's arrow.
 #[derive(Drop)]
 pub(crate) struct Found {
     pub(crate) words: Vec<u8>,
@@ -182,7 +203,7 @@ pub(crate) struct Found {
     pub(crate) arrow: Arrow,
 }
 
-/// Draws the rows of a run, and records the packets that were sent.
+/// Makes the rows for a run, and records the packets that were sent.
 #[derive(Drop)]
 pub(crate) struct Rows<'a> {
     pub(crate) options: &'a DrawOptions,
@@ -191,8 +212,8 @@ pub(crate) struct Rows<'a> {
 }
 
 impl<'a> Rows<'a> {
-    /// Starts the rows of a run that has done no action yet. `options` select the rows that are drawn. Allocates no
-    /// memory.
+    /// Starts the rows for a run in which no action has been carried out yet. `options` select the rows that are drawn.
+    /// Allocates no memory.
     pub(crate) fn new(alloc: Global, options: &'a DrawOptions) -> Rows<'a>
         ensures { (configs : List Config) → draws options.entry.now result configs [] [] }
     {
@@ -203,7 +224,7 @@ impl<'a> Rows<'a> {
         }
     }
 
-    /// Finds what the row of `action` needs from the cluster before the action, which is `world`.
+    /// Gathers the facts that the row of `action` needs. `world` is the cluster before the action.
     fn find(&self, alloc: Global, world: &World, action: &Action) -> Result<Found, AllocError>
         ensures { (c : Cluster) → IsViewed c world.now → IfOk result
             (IsFound self.now.options.now c self.now.packets.items action.now) }
@@ -213,13 +234,13 @@ impl<'a> Rows<'a> {
             words: first_words(alloc, action, given)?,
             is_named: self.options.names(action, given),
             clock: event_times(world, action.actor()).0,
-            times: times_brought(alloc, action, given)?,
+            times: carried_times(alloc, action, given)?,
             arrow: arrow(self.packets.as_slice(), action),
         })
     }
 
-    /// Adds the row of action number `number` if it is drawn, and the packets that it sent. `found` is what was found
-    /// before the action.
+    /// Adds the row for action number `number` if this row is drawn, and records the packets that the action sent.
+    /// `found` contains the facts that were gathered before the action.
     fn add_turn(
         &mut self,
         alloc: Global,
@@ -253,7 +274,7 @@ impl<'a> Rows<'a> {
             action: number,
             above: self.rows.len() as u64,
         };
-        note_packet(&mut self.packets, action);
+        mark_given(&mut self.packets, action);
         add_packets(&mut self.packets, sender, is_shown, line.sent.as_slice())?;
         let row = row(
             alloc,

@@ -3,8 +3,8 @@
 /// The first tag, up to the width and the height of the visible area.
 pub const OPENING: &[u8] = b"<svg xmlns='http://www.w3.org/2000/svg' role='img' viewBox='-700 0 ";
 
-/// The title, the colours for light and dark, the arrow heads, and the paper. Each colour is given as its light value
-/// before its variable, for viewers that don't support variables.
+/// The title, the colours for light and dark, the arrow heads, and the background. Each colour is written twice: first
+/// as its light value, for viewers that don't support variables, and then as its variable.
 pub const STYLE: &[u8] = b"<title>A run of a cluster, from the top down</title>
 <style>
 svg{--ink:#1f2328;--paper:#ffffff;--lane:#afb8c1;--t:#1a7f37;--i:#6e7781;--r:#cf222e;font:75px ui-monospace,Menlo,Consolas,monospace}
@@ -30,7 +30,7 @@ text{white-space:pre}
 <rect class='p' x='-700' y='0' width='100%' height='100%'/>
 ";
 
-/// The legend, and the end of its group.
+/// The legend, and the end of the group that contains the legend.
 pub const LEGEND: &[u8] =
     b"<path class='t' d='M0 0H150'/><text class='t' x='180' y='25'>taken</text>
 <path class='i' d='M480 0H630'/><text class='i' x='660' y='25'>ignored</text>
@@ -39,7 +39,7 @@ pub const LEGEND: &[u8] =
 <path class='b' d='M2430-25H2530M2430 25H2530'/><text class='n' x='2560' y='25'>opened again</text></g>
 ";
 
-/// A row: its action's number, its dot, and its label.
+/// A row, which consists of the action's number, the dot and the label.
 pub const ROW: &[u8] = b"<text class='n' x='-680' y='~75'>~</text>
 <g class='~' transform='translate(~)'>~<text class='~' x='~' y='~75'>~</text>
 ";

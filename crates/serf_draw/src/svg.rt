@@ -4,40 +4,40 @@ ghost use Rattle.std.specs.Prelude.{◌≡◌, ◌++◌, ◌+◌, ◌-◌, IfOk,
 ghost use Rattle.std.specs.List.{flat_map};
 ghost use Rattle.serf_draw.specs.Svg.{agent_thousands, arrow_line, arrow_text, back_text, begins_outside as arrow_begins_outside, columns as columns_of, cross_text, frame_text, front_text, guide_text, has_outside as any_outside, head_text, heads_text, is_outside as outside_of, label_place, lane_line, lane_place as place_among, lanes_text, legend_text, line_above as above, line_of, mark_text, name_text, names_text, outside_text, place_text, row_text, size_text, svg_of, tone_word as word_of, view_text};
 
-use crate::filled::{PicturePart, write_between, write_each, write_each_beside};
+use crate::filled::{PicturePart, write_between, write_each, write_each_with_lanes};
 use crate::label::{label_columns, longest, short_name};
 use crate::picture::{Arrow, Lane, Picture, Row, Sender, Tone};
 use crate::style::{CROSS, LEGEND, OPENING, ROW, STYLE};
 use serf_text::{write_number, write_template};
 use std::alloc::{AllocError, Global};
 
-/// The number of rows between two lines with the names of the lanes.
+/// The number of rows between two lines that contain the names of the lanes.
 const NAMED_ROWS: u64 = 40;
 
-/// Returns the number of the line above a row that has `rows` rows above it. After each [`NAMED_ROWS`] of these rows,
-/// there is one more line, with the names of the lanes.
+/// Returns the number of the line above a row. There are `rows` other rows above this row. After every [`NAMED_ROWS`]
+/// rows, there is an additional line with the names of the lanes.
 fn line_above(rows: u64) -> u64
     ensures { result ≡ above rows }
 {
     rows.saturating_add(rows / NAMED_ROWS)
 }
 
-/// Returns the number of the line of a row that has `rows` rows above it.
+/// Returns the number of the line on which a row is drawn. There are `rows` other rows above this row.
 fn line(rows: u64) -> u64
     ensures { result ≡ line_of rows }
 {
     line_above(rows).saturating_add(1)
 }
 
-/// Returns the index of agent number `agent` among `lanes`, from the left.
+/// Returns the index in `lanes` of the lane of agent number `agent`. Lanes are counted from the left.
 fn lane_place(lanes: &[Lane], agent: u64) -> Option<usize>
     ensures { result ≡ place_among lanes.now agent }
 {
     lanes.iter().position(|lane| lane.agent == agent)
 }
 
-/// Appends the index of the agent's lane among `lanes`, which is its x coordinate in thousands, or a `-` if the agent
-/// has no lane.
+/// Appends the index of the agent's lane in `lanes`. The index of a lane is also the lane's x coordinate in thousands.
+/// If the agent has no lane, the function appends a `-` instead.
 fn write_thousands(out: &mut Vec<u8>, lanes: &[Lane], agent: Option<u64>) -> Result<(), AllocError>
     ensures { OnOk result (out.new.items ≡ out.old.items ++ agent_thousands lanes.now agent) }
 {
@@ -50,8 +50,8 @@ fn write_thousands(out: &mut Vec<u8>, lanes: &[Lane], agent: Option<u64>) -> Res
     }
 }
 
-/// Appends the x and y coordinates of the middle of the agent's lane, on the line of a row that has `rows` rows above
-/// it. A lane is 1,000 units wide, and a line is 100 units high.
+/// Appends the x and y coordinates of the middle of the agent's lane on the line of a row. There are `rows` other rows
+/// above this row. A lane is 1,000 units wide, and a line is 100 units high.
 #[tactic(auto, unfolding(crate::specs::Svg::place_text, crate::specs::Svg::between))]
 pub(crate) fn write_place(
     out: &mut Vec<u8>,
@@ -76,8 +76,8 @@ pub(crate) fn write_label_place(out: &mut Vec<u8>, lanes: &[Lane]) -> Result<(),
     write_between(out, b"", (lanes.len() as u64).saturating_sub(1), b"760")
 }
 
-/// Returns whether the actions of an agent are drawn to the left of all lanes, because it has none among `lanes`, or
-/// because there is no agent.
+/// Returns whether an action of `agent` is drawn to the left of all lanes. An action is drawn to the left of all lanes
+/// if its agent has no lane in `lanes`, or if no agent performs the action.
 fn is_outside(lanes: &[Lane], agent: Option<u64>) -> bool
     ensures { result ≡ outside_of lanes.now agent }
 {
@@ -98,14 +98,14 @@ fn begins_outside(lanes: &[Lane], arrow: Arrow) -> bool
     }
 }
 
-/// Returns whether a row, or the beginning of its arrow, is to the left of all lanes.
+/// Returns whether some row in `rows`, or the beginning of its arrow, is to the left of all lanes.
 fn has_outside(lanes: &[Lane], rows: &[Row]) -> bool
     ensures { result ≡ any_outside lanes.now rows.now }
 {
     rows.iter().any(|row| is_outside(lanes, row.agent) || begins_outside(lanes, row.arrow))
 }
 
-/// Returns the class of a tone in the SVG file.
+/// Returns the class that the SVG file uses for a tone.
 fn tone_word(tone: Tone) -> &'static [u8]
     ensures { result.now ≡ word_of tone }
 {
@@ -116,7 +116,7 @@ fn tone_word(tone: Tone) -> &'static [u8]
     }
 }
 
-/// Appends the name of `lane`, which has the index `place`, on line number `line`.
+/// Appends the name of `lane` on line number `line`. The index of this lane is `place`.
 #[tactic(auto, using(crate::proofs::FilledLemmas::name_filled), unfolding(crate::specs::Svg::name_text))]
 fn write_name(
     alloc: Global,
@@ -136,7 +136,7 @@ fn write_name(
     write_template(out, b"<text class='h' x='~500' y='~65'>~</text>\n", &parts)
 }
 
-/// Appends the names of all `lanes` on line number `line`.
+/// Appends the names of all lanes in `lanes` on line number `line`.
 fn write_names(
     alloc: Global,
     out: &mut Vec<u8>,
@@ -153,8 +153,8 @@ fn write_names(
     Ok(())
 }
 
-/// Appends the name of the area to the left of all lanes, on line number `line`, or nothing if `outside` says that this
-/// area is empty.
+/// On line number `line`, appends the name of the area to the left of all lanes. If `outside` is false, this area is
+/// empty, and the function appends nothing.
 #[tactic(auto, unfolding(crate::specs::Svg::between))]
 fn write_outside(out: &mut Vec<u8>, outside: bool, line: u64) -> Result<(), AllocError>
     ensures { OnOk result (out.new.items ≡ out.old.items ++ outside_text outside line) }
@@ -170,7 +170,7 @@ fn write_outside(out: &mut Vec<u8>, outside: bool, line: u64) -> Result<(), Allo
     )
 }
 
-/// Appends all names on line number `line`.
+/// On line number `line`, appends the names of the lanes and the name of the area to the left of the lanes.
 #[tactic(auto, unfolding(crate::specs::Svg::head_text))]
 fn write_head(
     alloc: Global,
@@ -185,7 +185,7 @@ fn write_head(
     write_names(alloc, out, line, lanes)
 }
 
-/// Appends the names above all `rows` rows, and again between groups of [`NAMED_ROWS`] rows.
+/// Appends the names of the lanes above all `rows` rows, and again between groups of [`NAMED_ROWS`] rows.
 fn write_heads(
     alloc: Global,
     out: &mut Vec<u8>,
@@ -202,7 +202,7 @@ fn write_heads(
     Ok(())
 }
 
-/// Appends the vertical line of the lane with the index `place`, down to line number `last`.
+/// Appends the vertical line for the lane with the index `place`, down to line number `last`.
 #[tactic(auto, using(crate::proofs::FilledLemmas::lane_filled))]
 fn write_lane_line(out: &mut Vec<u8>, last: u64, place: u64) -> Result<(), AllocError>
     ensures { OnOk result (out.new.items ≡ out.old.items ++ lane_line last place) }
@@ -211,7 +211,7 @@ fn write_lane_line(out: &mut Vec<u8>, last: u64, place: u64) -> Result<(), Alloc
     write_template(out, b"<path class='l' d='M~500 90V~99'/>\n", &parts)
 }
 
-/// Appends the vertical lines of `lanes`, down to the end of line number `last`.
+/// Appends the vertical lines for `lanes`, down to the end of line number `last`.
 fn write_lanes(out: &mut Vec<u8>, last: u64, lanes: &[Lane]) -> Result<(), AllocError>
     ensures { OnOk result (out.new.items ≡ out.old.items ++ lanes_text last 0 lanes.now) }
 {
@@ -235,8 +235,8 @@ fn write_guide(out: &mut Vec<u8>, lanes: &[Lane], row: &Row) -> Result<(), Alloc
     write_template(out, b"<path class='w' d='M~H~'/>\n", &parts)
 }
 
-/// Appends an arrow from the lane of `agent`, on the line of the row that has `rows` rows above it, to the place at
-/// which the agent of `row` acts.
+/// Appends an arrow that ends at the place at which the agent of `row` acts. The arrow begins in the lane of `agent`,
+/// on the line of the row that has `rows` other rows above it.
 #[tactic(auto, unfolding(crate::specs::Svg::arrow_line, crate::specs::Svg::class_text))]
 fn write_arrow_line(
     out: &mut Vec<u8>,
@@ -256,7 +256,7 @@ fn write_arrow_line(
     write_template(out, b"<path class='~' d='M~L~'/>\n", &parts)
 }
 
-/// Appends the arrow of a row, if it has one.
+/// Appends the arrow of `row`. If the row has no arrow, the function appends nothing.
 fn write_arrow(out: &mut Vec<u8>, lanes: &[Lane], row: &Row) -> Result<(), AllocError>
     ensures { OnOk result (out.new.items ≡ out.old.items ++ arrow_text lanes.now row.now) }
 {
@@ -267,7 +267,7 @@ fn write_arrow(out: &mut Vec<u8>, lanes: &[Lane], row: &Row) -> Result<(), Alloc
     }
 }
 
-/// Appends a small cross at the place from which a packet was sent that no agent received.
+/// For a packet that no agent received, appends a small cross at the place from which the packet was sent.
 #[tactic(auto, unfolding(crate::specs::Svg::cross_text, crate::specs::Svg::placed_text))]
 fn write_cross(out: &mut Vec<u8>, lanes: &[Lane], sender: &Sender) -> Result<(), AllocError>
     ensures { OnOk result (out.new.items ≡ out.old.items ++ cross_text lanes.now sender.now) }
@@ -276,8 +276,8 @@ fn write_cross(out: &mut Vec<u8>, lanes: &[Lane], sender: &Sender) -> Result<(),
     write_template(out, CROSS, &parts)
 }
 
-/// Returns the SVG for the dot of a row. If `restarts` says that the agent was opened again, it includes a break of the
-/// lane.
+/// Returns the SVG for the dot of a row. If `restarts` is true, the agent was opened again, and the SVG includes a
+/// break in the agent's lane.
 fn mark(restarts: bool) -> &'static [u8]
     ensures { result.now ≡ mark_text restarts }
 {
@@ -288,7 +288,7 @@ fn mark(restarts: bool) -> &'static [u8]
     }
 }
 
-/// Appends a row: its action's number, its dot, and its label.
+/// Appends a row, which consists of the action's number, the dot and the label.
 fn write_row<'a>(out: &mut Vec<u8>, lanes: &'a [Lane], row: &'a Row) -> Result<(), AllocError>
     ensures { OnOk result (out.new.items ≡ out.old.items ++ row_text lanes.now row.now) }
 {
@@ -308,7 +308,8 @@ fn write_row<'a>(out: &mut Vec<u8>, lanes: &'a [Lane], row: &'a Row) -> Result<(
     write_template(out, ROW, &parts)
 }
 
-/// Returns the number of columns, which are one for each lane and those of the labels.
+/// Returns the number of columns in the picture, which is at least three. Each lane takes up one column, and the labels
+/// take up further columns.
 fn columns(lanes: &[Lane], rows: &[Row]) -> u64
     ensures { result ≡ columns_of lanes.now rows.now }
 {
@@ -327,7 +328,7 @@ fn write_size(out: &mut Vec<u8>, columns: u64, lines: u64) -> Result<(), AllocEr
     write_template(out, b"~700 ~99' width='~7pc' height='~.99pc'>\n", &parts)
 }
 
-/// Appends the start of the file, up to the paper.
+/// Appends the start of the file, up to the background.
 #[tactic(auto, unfolding(crate::specs::Svg::frame_text))]
 fn write_frame(out: &mut Vec<u8>, columns: u64, lines: u64) -> Result<(), AllocError>
     ensures { OnOk result (out.new.items ≡ out.old.items ++ frame_text columns lines) }
@@ -337,7 +338,7 @@ fn write_frame(out: &mut Vec<u8>, columns: u64, lines: u64) -> Result<(), AllocE
     out.extend_from_slice(STYLE)
 }
 
-/// Appends the legend on line number `line`, which contains nothing else.
+/// Appends the legend on line number `line`. This line contains nothing but the legend.
 #[tactic(auto, unfolding(crate::specs::Svg::between))]
 fn write_legend(out: &mut Vec<u8>, line: u64) -> Result<(), AllocError>
     ensures { OnOk result (out.new.items ≡ out.old.items ++ legend_text line) }
@@ -348,7 +349,7 @@ fn write_legend(out: &mut Vec<u8>, line: u64) -> Result<(), AllocError>
 
 /// Appends the background: the lanes with their names, and the lines to the labels.
 #[tactic(auto, unfolding(crate::specs::Svg::back_text))]
-fn put_back(
+fn write_background(
     alloc: Global,
     out: &mut Vec<u8>,
     lanes: &[Lane],
@@ -359,12 +360,12 @@ fn put_back(
     let count = rows.len() as u64;
     write_lanes(out, line_above(count), lanes)?;
     write_heads(alloc, out, has_outside(lanes, rows), count, lanes)?;
-    write_each_beside(out, lanes, rows, write_guide)
+    write_each_with_lanes(out, lanes, rows, write_guide)
 }
 
 /// Appends the foreground: the arrows, the crosses and the rows.
 #[tactic(auto, unfolding(crate::specs::Svg::front_text))]
-fn write_front(
+fn write_foreground(
     out: &mut Vec<u8>,
     lanes: &[Lane],
     rows: &[Row],
@@ -373,19 +374,19 @@ fn write_front(
     ensures { OnOk result (out.new.items ≡ out.old.items
         ++ front_text lanes.now rows.now lost.now) }
 {
-    write_each_beside(out, lanes, rows, write_arrow)?;
-    write_each_beside(out, lanes, lost, write_cross)?;
+    write_each_with_lanes(out, lanes, rows, write_arrow)?;
+    write_each_with_lanes(out, lanes, lost, write_cross)?;
     write_each(out, rows, |out, row| write_row(out, lanes, row))
 }
 
-/// Returns a picture as the text of one SVG file. It needs no script and no font from elsewhere, and it is light or
-/// dark as the reader prefers.
+/// Returns a picture as the text of one SVG file. The file needs no script and no font from elsewhere, and the picture
+/// is light or dark, as the reader prefers.
 ///
-/// Each row has one label, to the right of all lanes, so that no label crosses an arrow. Each packet that is passed to
-/// an agent has one arrow, which begins at its sender. A packet that no agent received ends in a small cross. The names
-/// of the lanes are above all rows, and are repeated between groups of 40 rows. If anything is drawn to the left of all
-/// lanes, this area is named `outside`. A legend is below the rows. Names and labels are escaped. It returns an
-/// `AllocError` only if there is no memory for the text.
+/// Each row has one label, which is to the right of all lanes, so that no label crosses an arrow. Each packet that is
+/// passed to an agent has one arrow, which begins at the packet's sender. A packet that no agent received ends in a
+/// small cross. The names of the lanes appear above all rows, and are repeated between groups of 40 rows. If anything
+/// is drawn to the left of all lanes, the area to their left is named `outside`. The legend is below the rows. Names
+/// and labels are escaped. The function returns an `AllocError` only if there isn't enough memory for the text.
 #[tactic(auto, unfolding(crate::specs::Svg::svg_of))]
 pub fn svg_text(alloc: Global, picture: &Picture) -> Result<Vec<u8>, AllocError>
     ensures { IfOk result (λ text. text.items ≡ svg_of picture.now) }
@@ -395,8 +396,8 @@ pub fn svg_text(alloc: Global, picture: &Picture) -> Result<Vec<u8>, AllocError>
     let rows = picture.rows.as_slice();
     let below = line(rows.len() as u64);
     write_frame(&mut out, columns(lanes, rows), below)?;
-    put_back(alloc, &mut out, lanes, rows)?;
-    write_front(&mut out, lanes, rows, picture.lost.as_slice())?;
+    write_background(alloc, &mut out, lanes, rows)?;
+    write_foreground(&mut out, lanes, rows, picture.lost.as_slice())?;
     write_legend(&mut out, below)?;
     out.extend_from_slice(b"</svg>\n")?;
     Ok(out)

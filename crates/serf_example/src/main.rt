@@ -1,9 +1,9 @@
 //! Runs two agents whose snapshots are files. An event arrives twice, and once more after a crash, and its handler runs
-//! once. A query is asked and answered.
+//! once. One agent fires a query, and the other answers it.
 //!
 //! The program shows how to embed the agent in Rattle: open a [`FileStore`] for each agent, open the agent on the
-//! store's text with [`Agent::open`], pass packets in and out, and run a handler for what a call hands out. The
-//! snapshots are in the current folder, and each run starts without them.
+//! store's text with [`Agent::open`], pass packets in and out, and run a handler for each event that a call hands out.
+//! The snapshots are in the current folder, and each run starts without them.
 #![tactic(auto)]
 
 mod lives;
@@ -52,7 +52,7 @@ fn handle(rt: &HostRuntime, agent: &str, event: &EventOut) -> Result<()> {
     Ok(())
 }
 
-/// Reports an ack or a response that an agent counted.
+/// Prints an ack or a response that an agent counted.
 fn tell_answer(rt: &HostRuntime, agent: &str, packet: &Bytes) -> Result<()> {
     if let Some(answer) = answer_in(packet.as_slice()) {
         let kind = if is_ack(&answer) {
@@ -92,7 +92,7 @@ fn first_life(rt: &HostRuntime, packet: &Bytes) -> Result<()> {
     deliver(rt, &mut beta, "beta", packet)
 }
 
-/// Returns the parameters of a query to every node, which accepts answers for 1,000 nanoseconds.
+/// Returns the parameters of a query that goes to every node and accepts answers for 1,000 nanoseconds.
 fn of_every_node(rt: &HostRuntime) -> Result<QueryParams> {
     Ok(QueryParams {
         filters: BytesList::new(rt.alloc()),
@@ -124,7 +124,7 @@ fn answer(rt: &HostRuntime, beta: &mut OnFile<'_>, packet: &Bytes) -> Result<(By
     }
 }
 
-/// Reports a query whose deadline has passed, and how many acks and responses it had.
+/// Prints that a query's deadline has passed, and how many acks and responses the query had.
 fn tell_closed(rt: &HostRuntime, time: u64, query: &OpenQuery) -> Result<()> {
     println!(rt;
         "alpha closes its query of time {time}: {} acks, {} responses",
@@ -134,7 +134,7 @@ fn tell_closed(rt: &HostRuntime, time: u64, query: &OpenQuery) -> Result<()> {
     Ok(())
 }
 
-/// Closes the queries of the agent `alpha` whose deadlines have passed, and reports each of them.
+/// Closes the queries of the agent `alpha` whose deadlines have passed, and prints a line about each of them.
 fn close(rt: &HostRuntime, alpha: &mut OnFile<'_>) -> Result<()> {
     for (time, query) in alpha.take_due(rt.alloc(), 1_001)? {
         tell_closed(rt, time, &query)?;
@@ -142,7 +142,7 @@ fn close(rt: &HostRuntime, alpha: &mut OnFile<'_>) -> Result<()> {
     Ok(())
 }
 
-/// Lets the agent `alpha` ask every node for its load, and returns the packet of the query.
+/// Lets the agent `alpha` fire a query for the load of every node, and returns the query's packet.
 fn ask(rt: &HostRuntime, alpha: &mut OnFile<'_>) -> Result<Bytes> {
     let params = of_every_node(rt)?;
     let asked = alpha.query(rt.alloc(), 0, 7, b"load", b"", &params)?;

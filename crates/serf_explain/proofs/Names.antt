@@ -92,7 +92,7 @@ unfoldable pub use Rattle.serf_explain.specs.Deliveries.{handed_words}
 pub use Rattle.serf_explain.specs.Judging.{AddsJudged, AddsLines, AddsMerge, AddsState, HasJudged, IsHandedIn, IsJudging, IsMerging, TellsText}
 pub use Rattle.serf_explain.specs.Judging.{both_verdicts, detail_words, is_seen, judge_takes, judged_detail, judged_line, merged_of, past}
 unfoldable pub use Rattle.serf_explain.specs.Judging.{seen_after, seen_front}
-pub use Rattle.serf_explain.specs.Leaving.{AreNumbers, HoldMarks, IsLooked, IsMark, IsMarkOf, clock_said, first_numbers, hears_nothing}
+pub use Rattle.serf_explain.specs.Leaving.{AreNumbers, HoldMarks, IsLooked, IsMark, IsMarkOf, state_event_clock, first_numbers, hears_nothing}
 pub use Rattle.serf_explain.specs.Leaving.{ignored_words, left_words, mark_after, marks_or_first, numbers_after, numbers_of, takes_by}
 pub use Rattle.serf_explain.specs.Leaving.{takes_events, unheard_min}
 unfoldable pub use Rattle.serf_explain.specs.Leaving.{buffers_words}

@@ -1,5 +1,5 @@
 -- A text to which reasons are appended.
-use Rattle.serf_explain.proofs.Names.{Bool, Err, List, None, Ok, OnOk, Option, Result, Some, [], ap, append_assoc, arith, codes, cond, decimal, false, length, refl, sym, true, ℕ, ◌++◌, ◌<◌, ◌∙◌, ◌∷◌, ◌≡◌, flat_map, Message, PushPull, push_pull, ConcreteState, AddsReasons, AddsSome, because_line, raised_reasons, raised_words, clock_said, hears_nothing, unheard_min}
+use Rattle.serf_explain.proofs.Names.{Bool, Err, List, None, Ok, OnOk, Option, Result, Some, [], ap, append_assoc, arith, codes, cond, decimal, false, length, refl, sym, true, ℕ, ◌++◌, ◌<◌, ◌∙◌, ◌∷◌, ◌≡◌, flat_map, Message, PushPull, push_pull, ConcreteState, AddsReasons, AddsSome, because_line, raised_reasons, raised_words, state_event_clock, hears_nothing, unheard_min}
 use Rattle.std.proofs.lemmas.List.{append-nil}
 use Rattle.serf_model.specs.declared.action.Act.TheVariants as acts
 
@@ -52,7 +52,7 @@ pub adds_raised : (n : ℕ) (raised : Option ℕ) (a b c : List ℕ) → b ≡ a
 adds_raised n raised a b c is some = adds-following n a b c (record { reasons = raised_reasons raised; added = is }) some
 
 -- what is known of a merge of which nothing was processed, and of any other merge
-pub unheard_is : (s : ConcreteState) (before packet : ℕ) (join b : Bool) (m : Option Message) → ((p : PushPull) → b ≡ hears_nothing s before join p) → cond b (clock_said m) None ≡ unheard_min s before (acts.Merge packet join) m
+pub unheard_is : (s : ConcreteState) (before packet : ℕ) (join b : Bool) (m : Option Message) → ((p : PushPull) → b ≡ hears_nothing s before join p) → cond b (state_event_clock m) None ≡ unheard_min s before (acts.Merge packet join) m
 unheard_is s before packet join b (Some (push_pull p)) h = ap (λ (x : Bool). cond x (Some p.event_clock) None) (h p)
 unheard_is s before packet join true _ h = refl
 unheard_is s before packet join false _ h = refl

@@ -24,11 +24,11 @@ whole run bytes text count s counted = record {
 }
 
 halted-by : (error : StreamError Cause) (bytes : List ℕ) (lines left : List (List ℕ)) → lines_of bytes ≡ lines ++ left → IsCauseBy is_refused_by error lines left → IsHaltedBy error bytes lines left
-halted-by errors.ReadError bytes lines left cut h = h
-halted-by (errors.BadLine number cause) bytes lines left cut h = (h.3, ap schedule_in (cut ∙ ap (λ (l : List (List ℕ)). lines ++ l) h.2) ∙ h.4 h.1)
-halted-by (errors.LineTooLong number) bytes lines left cut h = h
-halted-by errors.OutOfMemory bytes lines left cut h = tt
-halted-by errors.WriteError bytes lines left cut h = tt
+halted-by errors.ReadError bytes lines left splits h = h
+halted-by (errors.BadLine number cause) bytes lines left splits h = (h.3, ap schedule_in (splits ∙ ap (λ (l : List (List ℕ)). lines ++ l) h.2) ∙ h.4 h.1)
+halted-by (errors.LineTooLong number) bytes lines left splits h = h
+halted-by errors.OutOfMemory bytes lines left splits h = tt
+halted-by errors.WriteError bytes lines left splits h = tt
 
 pub halted : (error : StreamError Cause) (bytes : List ℕ) (first now : Option (List ℕ)) → StopsAt HasExplained is_refused_by error (lines_of bytes) first now → IsHalted error bytes first now
 halted error bytes first now s =
@@ -36,11 +36,11 @@ halted error bytes first now s =
     record {
       lines = s.lines;
       left = s.left;
-      cut = s.cut;
+      splits = s.splits;
       schedule = t.2.said;
       reads = t.2.reads;
       text = s.text;
       tells = tells-run s.job s.lines s.text t;
       written = s.written;
-      cause = halted-by error bytes s.lines s.left s.cut s.cause;
+      cause = halted-by error bytes s.lines s.left s.splits s.cause;
     }

@@ -112,9 +112,9 @@ abbrev pub hears_nothing : ConcreteState → ℕ → Bool → PushPull → Bool
 hears_nothing s before join p = is_some (written_min_line s.config p join) && bytes_kept s == before
 
 -- the event clock of the state that a packet carries, if it carries one
-abbrev pub clock_said : Option Message → Option ℕ
-clock_said (Some (push_pull p)) = Some p.event_clock
-clock_said _ = None
+abbrev pub state_event_clock : Option Message → Option ℕ
+state_event_clock (Some (push_pull p)) = Some p.event_clock
+state_event_clock _ = None
 
 -- The minimum for events whose line failed, so that nothing of the state was processed. It is the state's event clock,
 -- if its line is written first.

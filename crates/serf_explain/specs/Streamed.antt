@@ -26,7 +26,7 @@ IsHaltedBy WriteError bytes lines left = Unit {0}
 pub record IsHalted (error : StreamError Cause) (bytes : List ℕ) (first now : Option (List ℕ)) : Type 0 where
   pub lines : List (List ℕ)
   pub left : List (List ℕ)
-  pub cut : lines_of bytes ≡ lines ++ left
+  pub splits : lines_of bytes ≡ lines ++ left
   pub schedule : Parsed
   pub reads : schedule_in lines ≡ Ok schedule
   pub text : List ℕ

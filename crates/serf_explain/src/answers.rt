@@ -37,8 +37,8 @@ fn write_new<'a>(out: &mut Vec<u8>, actor: &Actor<'a>, event: Event<'a>) -> Resu
     )
 }
 
-/// Appends the reason why a delivered query is new. If one of its filters keeps it from being handed out, the reason
-/// also names this filter, counted from 0.
+/// Appends the reason why a delivered query is new. If one of the query's filters excludes this node, the reason also
+/// names the number of this filter. Filters are numbered from 0.
 fn write_new_query<'a>(
     out: &mut Vec<u8>,
     actor: &Actor<'a>,
@@ -63,7 +63,7 @@ fn write_new_query<'a>(
     out.extend_from_slice(b", and each of its filters lets this node pass")
 }
 
-/// Appends which query `answer` was counted for, and which action fired this query.
+/// Appends a text that names the query for which `answer` was counted, and the action that fired this query.
 fn write_counted(
     out: &mut Vec<u8>,
     context: &TurnContext,
@@ -96,7 +96,8 @@ fn write_counted(
     }
 }
 
-/// Appends what the buffers of `agent` hold after a restart. This is for an agent that keeps its events over a restart.
+/// Appends a description of the buffers of `agent` after a restart. The agent has to be one that keeps its events
+/// across restarts.
 fn write_buffers(out: &mut Vec<u8>, agent: &Agent<MemorySink>) -> Result<(), AllocError>
     ensures { OnOk result (out.new.items ≡ out.old.items ++ buffers_words agent.now.concrete) }
 {
@@ -109,7 +110,7 @@ fn write_buffers(out: &mut Vec<u8>, agent: &Agent<MemorySink>) -> Result<(), All
     say(out, b", query clock ", agent.query_time())
 }
 
-/// Appends what the agent found in its snapshot when it was restarted.
+/// Appends the clocks and the minimums that `agent` has restored from its snapshot.
 fn write_restarted(out: &mut Vec<u8>, agent: &Agent<MemorySink>) -> Result<(), AllocError> {
     let (events, queries) = (agent.event_minimum(), agent.query_minimum());
     let clock = agent.member_time().saturating_sub(1);
@@ -125,7 +126,7 @@ fn write_restarted(out: &mut Vec<u8>, agent: &Agent<MemorySink>) -> Result<(), A
     out.extend_from_slice(b" on")
 }
 
-/// Returns the words for `call`, a call to the disk.
+/// Returns the words for the disk call `call`.
 fn call_words(call: SinkCall) -> &'static [u8] {
     match call {
         SinkCall::Append => b"append",
@@ -135,7 +136,8 @@ fn call_words(call: SinkCall) -> &'static [u8] {
     }
 }
 
-/// Appends that `agent` fired an event or a query at `mark` of its clock for these, which `clock` names.
+/// Appends the statement that `agent` fired an event or a query. `clock` is the name of the clock that the agent used
+/// to fire it, and `mark` is the mark of this clock.
 fn write_fired(
     out: &mut Vec<u8>,
     agent: &Agent<MemorySink>,
@@ -147,7 +149,7 @@ fn write_fired(
     write_mark(out, mark)
 }
 
-/// Appends which clocks `agent` sends in its state.
+/// Appends the clocks that `agent` sends in its state.
 fn write_state(out: &mut Vec<u8>, agent: &Agent<MemorySink>) -> Result<(), AllocError> {
     write_template(
         out,
@@ -161,7 +163,7 @@ fn write_state(out: &mut Vec<u8>, agent: &Agent<MemorySink>) -> Result<(), Alloc
     )
 }
 
-/// Appends which call to the disk of the agent will fail.
+/// Appends a statement of which call to the agent's disk will fail.
 fn write_broken(out: &mut Vec<u8>, actor: &Actor) -> Result<(), AllocError> {
     let Act::Break { call, count } = actor.act else {
         return Ok(());
@@ -171,7 +173,7 @@ fn write_broken(out: &mut Vec<u8>, actor: &Actor) -> Result<(), AllocError> {
     write_template(out, words, &[call, count, named(actor.agent)])
 }
 
-/// Appends what the snapshot of `agent` has after a compaction.
+/// Appends a description of the lines that the snapshot of `agent` contains after a compaction.
 fn write_compacted(out: &mut Vec<u8>, agent: &Agent<MemorySink>) -> Result<(), AllocError> {
     let words: &[u8] = if agent.config().keep_events {
         b"its snapshot has the last line of each kind, the minimum times, and the lines of what its buffers hold"
@@ -181,15 +183,15 @@ fn write_compacted(out: &mut Vec<u8>, agent: &Agent<MemorySink>) -> Result<(), A
     out.extend_from_slice(words)
 }
 
-/// Appends how many queries the agent closed because their deadlines were past.
+/// Appends the number of queries that the agent closed because their deadlines had passed.
 fn write_closed(out: &mut Vec<u8>, actor: &Actor, count: u64) -> Result<(), AllocError> {
     let now = Part::Number(moment_of(actor.act));
     let words = b"~ of the open queries of ~ had a deadline before ~";
     write_template(out, words, &[Part::Number(count), named(actor.agent), now])
 }
 
-/// Appends the reason for any answer that isn't a verdict on a delivered message: for something that the agent did by
-/// itself, or for a refusal.
+/// Appends the reason for an answer that isn't a verdict on a delivered message. The agent either acted by itself, or
+/// refused the action.
 fn write_own(out: &mut Vec<u8>, context: &TurnContext, actor: &Actor) -> Result<(), AllocError> {
     let (agent, before) = (actor.agent, actor.before.numbers);
     match context.line.answer {

@@ -21,7 +21,7 @@ pub(crate) struct Event<'a> {
 }
 
 impl<'a> Event<'a> {
-    /// Converts `event`, a decoded user event.
+    /// Converts a decoded user event to an `Event`.
     pub(crate) fn of(event: &UserEvent<'a>) -> Event<'a>
         ensures time { result.time ≡ event.now.time }
         ensures name { result.name.now ≡ event.now.name.now }
@@ -34,7 +34,7 @@ impl<'a> Event<'a> {
         }
     }
 
-    /// Returns the number of bytes that the name and the payload have together, capped at 2^64 - 1.
+    /// Returns the total length of the name and the payload in bytes, capped at 2^64 - 1.
     pub(crate) fn bytes(&self) -> u64
         ensures { result ≡ texts_told (event_of self.now.name.now self.now.payload.now) }
     {
@@ -42,8 +42,8 @@ impl<'a> Event<'a> {
     }
 }
 
-/// A Lamport time of agent number `agent`: of an event that it was handed, or of a query that it fired. It isn't a
-/// moment in nanoseconds.
+/// The number of an agent together with a Lamport time, which is the time of an event that was handed to the agent, or
+/// of a query that the agent fired. Despite its name, a `Moment` is not a number of nanoseconds.
 #[derive(Clone, Copy, PartialEq, Eq, Hash)]
 pub(crate) struct Moment {
     pub(crate) agent: u64,
@@ -53,15 +53,16 @@ pub(crate) struct Moment {
 /// An event that was handed to agent number `agent`.
 #[derive(Drop)]
 pub(crate) struct Delivery {
-    /// The number of the action that handed it out, counted from 1.
+    /// The number (counted from 1) of the action that handed out the event.
     pub(crate) action: u64,
     pub(crate) agent: u64,
     pub(crate) time: u64,
     /// The event's name, followed by its payload.
     pub(crate) texts: Vec<u8>,
-    /// The length of the name in bytes.
+    /// The length of the event's name in bytes.
     pub(crate) name: usize,
-    /// The index in `Deliveries::outs` of the previous delivery to this agent with the same time, if there is one.
+    /// The index in `Deliveries::outs` of the previous delivery to the same agent with the same time, or `None` if
+    /// there was no such delivery.
     before: Option<usize>,
 }
 
@@ -91,7 +92,7 @@ impl Delivery {
         })
     }
 
-    /// Returns the event's name and its payload.
+    /// Returns the name and the payload of the event.
     fn texts(&self) -> (&[u8], &[u8])
         ensures name { result.0.now ≡ take self.now.name self.now.texts.items }
         ensures payload { result.1.now ≡ drop self.now.name self.now.texts.items }
@@ -115,22 +116,22 @@ impl Delivery {
     }
 }
 
-/// The index of a delivery in `Deliveries::outs`, and the number of the action that handed it out.
+/// The index of a delivery in `Deliveries::outs`, and the number of the action that made this delivery.
 #[derive(Clone, Copy)]
 pub(crate) struct Found {
     pub(crate) place: usize,
     pub(crate) action: u64,
 }
 
-/// All deliveries of a run so far, in order.
+/// All deliveries of a run so far, in the order in which they were made.
 #[derive(Drop)]
 pub(crate) struct Deliveries {
     pub(crate) outs: Vec<Delivery>,
-    /// For each agent and time, the index in `outs` of the last delivery to this agent with this time.
+    /// For each agent and each time, the index in `outs` of the last delivery to this agent with this time.
     last: IndexMap<Moment, usize>,
 }
 
-/// Returns the first of `outs` that handed `event` to agent number `agent`.
+/// Returns the first delivery in `outs` that handed `event` to agent number `agent`, or `None` if no delivery did.
 fn first_in<'a>(outs: &'a [Delivery], agent: u64, event: &Event) -> Option<&'a Delivery>
     ensures { option_copied result ≡ find (λ h. is_record agent event.now.time
         (event_of event.now.name.now event.now.payload.now) (record_in h)) outs.now }
@@ -139,7 +140,7 @@ fn first_in<'a>(outs: &'a [Delivery], agent: u64, event: &Event) -> Option<&'a D
 }
 
 impl Deliveries {
-    /// Starts with no deliveries. Allocates no memory.
+    /// Creates a record without any deliveries. Allocates no memory.
     pub(crate) fn new(alloc: Global) -> Deliveries
         ensures { records_in result.outs.items ≡ [] }
     {
@@ -149,7 +150,7 @@ impl Deliveries {
         }
     }
 
-    /// Records that action number `action` handed out `event`, a line of its trace.
+    /// Records that action number `action` handed out `event`, an event line in the action's trace.
     fn record_event(
         &mut self,
         alloc: Global,
@@ -170,7 +171,7 @@ impl Deliveries {
         Ok(())
     }
 
-    /// Records all events that action number `action` handed out, as `line` lists them.
+    /// Records all events that action number `action` handed out according to `line`.
     pub(crate) fn record_all(
         &mut self,
         alloc: Global,
@@ -186,7 +187,8 @@ impl Deliveries {
         Ok(())
     }
 
-    /// Returns the delivery at index `place` if it handed `event` to agent number `agent`.
+    /// Returns the delivery at index `place` if this delivery handed `event` to agent number `agent`, and `None`
+    /// otherwise.
     fn found_at(&self, place: usize, agent: u64, event: &Event) -> Option<Found>
         ensures place { stands_at (records_in self.now.outs.items) place agent event.now.time
             (event_of event.now.name.now event.now.payload.now) ≡ true
@@ -205,8 +207,8 @@ impl Deliveries {
         })
     }
 
-    /// Returns the most recent delivery that handed `event` to agent number `agent`. It searches the deliveries to this
-    /// agent with the event's time, beginning with the latest one.
+    /// Returns the most recent delivery that handed `event` to agent number `agent`. The function searches the
+    /// deliveries that were made to this agent with the event's time, and begins with the latest one.
     fn last_of(&self, agent: u64, event: &Event) -> Option<Found>
         ensures { IfSome result
             (λ found. RecordedAt (records_in self.now.outs.items) found.action agent
@@ -228,8 +230,8 @@ impl Deliveries {
         None
     }
 
-    /// Returns a delivery that handed `event` to agent number `agent`: the one at index `place` if it did so, and
-    /// otherwise the most recent one.
+    /// Returns a delivery that handed `event` to agent number `agent`. If the delivery at index `place` did so, the
+    /// function returns that delivery, and otherwise the most recent one that did.
     pub(crate) fn found_near(&self, place: usize, agent: u64, event: &Event) -> Option<Found>
         ensures place { stands_at (records_in self.now.outs.items) place agent event.now.time
             (event_of event.now.name.now event.now.payload.now) ≡ true
@@ -244,7 +246,8 @@ impl Deliveries {
         }
     }
 
-    /// Returns the number of the first action that handed `event` to agent number `agent`. It searches all deliveries.
+    /// Returns the number of the first action that handed `event` to agent number `agent`. The function searches all
+    /// deliveries.
     fn first_of(&self, agent: u64, event: &Event) -> Option<u64>
         ensures { IsRecorded (records_in self.now.outs.items)
             agent event.now.time (event_of event.now.name.now event.now.payload.now) result }
@@ -255,7 +258,7 @@ impl Deliveries {
         }
     }
 
-    /// Returns the number of an action that handed `event` to agent number `agent`, if there is one.
+    /// Returns the number of an action that handed `event` to agent number `agent`, or `None` if no action did.
     pub(crate) fn action_of(&self, agent: u64, event: &Event) -> Option<u64>
         ensures { IsRecorded (records_in self.now.outs.items)
             agent event.now.time (event_of event.now.name.now event.now.payload.now) result }

@@ -1,4 +1,4 @@
-//! Keeps what is remembered of a run so far.
+//! Keeps the history of a run, so that reasons can refer to earlier actions.
 
 ghost use Rattle.std.specs.Prelude.{◌≡◌, ◌++◌, ◌+◌, ◌∷◌, [], List, ℕ, length, map, OnOk};
 ghost use Rattle.serf_model.specs.Cluster.{Cluster, step};
@@ -14,8 +14,8 @@ use serf_model::{Action, Line};
 use serf_world::World;
 use std::alloc::{AllocError, Global};
 
-/// What is remembered of a run, so that later reasons can name earlier actions. Of an action's line, only the events
-/// that it handed out are kept.
+/// The history of a run, which allows later reasons to name earlier actions. The history doesn't keep an action's whole
+/// line in the trace, but only the events that the action handed out.
 #[derive(Drop)]
 pub(crate) struct History {
     pub(crate) deliveries: Deliveries,
@@ -24,7 +24,7 @@ pub(crate) struct History {
 }
 
 impl History {
-    /// Starts the history of a run that has done no action yet. Allocates no memory.
+    /// Starts the history of a run in which no action has been carried out yet. Allocates no memory.
     pub(crate) fn new(alloc: Global) -> History
         ensures records { records_in result.deliveries.outs.items ≡ [] }
         ensures marks { (a : ℕ) → numbers_of result.marks a ≡ first_numbers }
@@ -37,7 +37,8 @@ impl History {
         }
     }
 
-    /// Records action number `number`, with its `line` of the trace. `world` is the cluster after the action.
+    /// Records action number `number` together with `line`, the action's line in the trace. `world` is the cluster
+    /// after the action.
     pub(crate) fn record_turn(
         &mut self,
         alloc: Global,

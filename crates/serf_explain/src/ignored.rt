@@ -3,7 +3,7 @@
 ghost use Rattle.std.specs.Prelude.{◌≡◌, ◌++◌, OnOk};
 ghost use Rattle.serf_explain.specs.Leaving.{took_words, uncounted_words};
 
-use crate::left::{Takes, first_words, write_left};
+use crate::left::{Takes, first_words, write_ignored_detail};
 use crate::memory::{Ended, open_query};
 use crate::quoted::say;
 use crate::turn_context::{Actor, TurnContext, moment_of};
@@ -12,11 +12,11 @@ use serf_text::{Part, write_number, write_quoted, write_template};
 use serf_wire::{Message, Query, QueryResponse};
 use std::alloc::AllocError;
 
-/// Appends how the agent `name` already knew a query. If `entered` is known, the agent accepted the query at the action
-/// with this number. Otherwise, if the agent `keeps` events, it was opened on a text with the query's line, and if not,
-/// it accepted the query before.
+/// Appends a statement of how the agent called `name` already knew a query. If `entered` is the number of an action,
+/// the agent accepted the query at this action. If `entered` is `None`, an agent that keeps its events (`keeps`) was
+/// opened on a text that contains the query's line, and any other agent accepted the query earlier.
 #[tactic(auto, unfolding(crate::specs::Leaving::took_words))]
-fn write_took(
+fn write_known_query(
     out: &mut Vec<u8>,
     name: &[u8],
     entered: Option<u64>,
@@ -38,7 +38,7 @@ fn write_took(
     }
 }
 
-/// Appends an explanation of `reason`, for which the delivered `query` is ignored.
+/// Appends an explanation of `reason`, the reason why the delivered `query` is ignored.
 fn write_query_ignored(
     out: &mut Vec<u8>,
     context: &TurnContext,
@@ -52,16 +52,17 @@ fn write_query_ignored(
     if reason == Reason::Seen {
         let config = actor.agent.config();
         let entered = context.past.memory.entered_at(actor.number, time, query.id);
-        return write_took(out, config.name.as_slice(), entered, config.keep_events);
+        return write_known_query(out, config.name.as_slice(), entered, config.keep_events);
     }
     out.extend_from_slice(first_words(reason))?;
     let before = &actor.before.numbers.query_minimum;
     let takes = Takes::queries(actor.agent, before, context.number);
-    write_left(out, &takes, b"query", time, 0, reason)
+    write_ignored_detail(out, &takes, b"query", time, 0, reason)
 }
 
-/// Appends why the agent has no open query of this time: it fired none, or the query was closed or lost, and at which
-/// action.
+/// Appends an explanation of why the agent has no open query with this time. Either the agent fired no query with this
+/// time, or it closed or lost the query. If the agent closed or lost the query, the explanation also names the action
+/// at which this happened.
 fn write_not_open(
     out: &mut Vec<u8>,
     context: &TurnContext,
@@ -81,7 +82,8 @@ fn write_not_open(
     }
 }
 
-/// Returns the words of `reason`, for which an answer to an open query is ignored. A number or a name follows them.
+/// Returns the words for `reason`, the reason why an answer to an open query is ignored. The caller may append a number
+/// or a name to these words.
 fn uncounted_words(reason: Reason) -> &'static [u8]
     ensures { result.now ≡ uncounted_words reason }
 {
@@ -94,7 +96,7 @@ fn uncounted_words(reason: Reason) -> &'static [u8]
     }
 }
 
-/// Appends an explanation of `reason`, for which `answer` is ignored although its query is open.
+/// Appends an explanation of `reason`, the reason why `answer` is ignored although its query is open.
 fn write_answer_reason(
     out: &mut Vec<u8>,
     actor: &Actor,
@@ -120,7 +122,7 @@ fn write_answer_reason(
     }
 }
 
-/// Appends an explanation of `reason`, for which the delivered `message` is ignored.
+/// Appends an explanation of `reason`, the reason why the delivered `message` is ignored.
 pub(crate) fn write_ignored(
     out: &mut Vec<u8>,
     context: &TurnContext,

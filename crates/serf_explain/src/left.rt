@@ -14,18 +14,18 @@ use std::alloc::AllocError;
 /// The limits by which an agent decides whether it accepts an event or a query.
 #[derive(Clone, Copy)]
 pub(crate) struct Takes {
-    /// The minimum, and the action that set it.
+    /// The minimum, and the action that set this minimum.
     pub(crate) lowest: Mark,
     pub(crate) clock: u64,
-    /// The number of slots in the buffer, each of which holds one time.
+    /// The number of slots in the buffer. Each slot holds the entries of one time.
     pub(crate) slots: u64,
-    /// The maximum number of events, or of queries, that the agent accepts with the same time.
+    /// The maximum number of events (or queries) with the same time that the agent accepts.
     pub(crate) per_time: u64,
 }
 
 impl Takes {
-    /// Returns the limits of `agent` for events after action number `action`. `before` is the mark of its minimum
-    /// before this action.
+    /// Returns the limits for events that apply to `agent` after action number `action`. `before` is the mark of the
+    /// agent's minimum before this action.
     pub(crate) fn events(agent: &Agent<MemorySink>, before: &Mark, action: u64) -> Takes
         ensures { result ≡ takes_events before.now agent.now.concrete action }
     {
@@ -38,8 +38,8 @@ impl Takes {
         }
     }
 
-    /// Returns the limits of `agent` for queries after action number `action`. `before` is the mark of its minimum
-    /// before this action.
+    /// Returns the limits for queries that apply to `agent` after action number `action`. `before` is the mark of the
+    /// agent's minimum before this action.
     pub(crate) fn queries(agent: &Agent<MemorySink>, before: &Mark, action: u64) -> Takes
         ensures { result ≡ takes_queries before.now agent.now.concrete action }
     {
@@ -53,7 +53,7 @@ impl Takes {
     }
 }
 
-/// Appends that an event's name and payload have `bytes` bytes together, which is too many.
+/// Appends the statement that an event's name and payload together have `bytes` bytes, which is too many.
 #[tactic(auto, unfolding(crate::specs::Left::oversize_words))]
 fn write_oversize(out: &mut Vec<u8>, bytes: u64) -> Result<(), AllocError>
     ensures { OnOk result (out.new.items ≡ out.old.items ++ oversize_words bytes) }
@@ -62,7 +62,8 @@ fn write_oversize(out: &mut Vec<u8>, bytes: u64) -> Result<(), AllocError>
     out.extend_from_slice(b" bytes together, more than 9216")
 }
 
-/// Appends that a value has been the same since action number `since`, or since the start if this is 0.
+/// Appends the statement that a value has been the same since action number `since`, or since the start of the run if
+/// `since` is 0.
 #[tactic(auto, unfolding(crate::specs::Left::since_words))]
 fn write_since(out: &mut Vec<u8>, since: u64) -> Result<(), AllocError>
     ensures { OnOk result (out.new.items ≡ out.old.items ++ since_words since) }
@@ -74,7 +75,7 @@ fn write_since(out: &mut Vec<u8>, since: u64) -> Result<(), AllocError>
     }
 }
 
-/// Appends the value of `mark`, and since which action it has been the same.
+/// Appends the value in `mark`, and the number of the action that set this value.
 #[tactic(auto, unfolding(crate::specs::Left::mark_words))]
 pub(crate) fn write_mark(out: &mut Vec<u8>, mark: &Mark) -> Result<(), AllocError>
     ensures { OnOk result (out.new.items
@@ -84,7 +85,8 @@ pub(crate) fn write_mark(out: &mut Vec<u8>, mark: &Mark) -> Result<(), AllocErro
     write_since(out, mark.since)
 }
 
-/// Appends that `time` is more than `slots` times below a clock. The clock's name and value follow.
+/// Appends the statement that `time` is below a clock by more than `slots`. The name and the value of this clock are to
+/// follow.
 fn write_below(out: &mut Vec<u8>, time: u64, slots: u64) -> Result<(), AllocError>
     ensures { OnOk result (out.new.items ≡ out.old.items ++ below_words time slots) }
 {
@@ -94,8 +96,8 @@ fn write_below(out: &mut Vec<u8>, time: u64, slots: u64) -> Result<(), AllocErro
     Ok(())
 }
 
-/// Appends that `time` is too old: it is more than `slots` times below `clock`, the clock called `name` (`event` or
-/// `query`).
+/// Appends the statement that `time` is too old because it is below `clock` by more than `slots`. The clock is called
+/// `name` (`event` or `query`).
 #[tactic(auto, unfolding(crate::specs::Left::too_old_words))]
 fn write_too_old(
     out: &mut Vec<u8>,
@@ -112,7 +114,8 @@ fn write_too_old(
     say(out, b" clock ", clock)
 }
 
-/// Appends that `per_time` events, or queries, of `time` were already accepted, which is the maximum for one time.
+/// Appends the statement that `per_time` events or queries with the time `time` were already accepted, which is the
+/// maximum for one time.
 #[tactic(auto, unfolding(crate::specs::Left::full_words))]
 fn write_full(out: &mut Vec<u8>, per_time: u64, time: u64) -> Result<(), AllocError>
     ensures { OnOk result (out.new.items ≡ out.old.items ++ full_words per_time time) }
@@ -125,7 +128,7 @@ fn write_full(out: &mut Vec<u8>, per_time: u64, time: u64) -> Result<(), AllocEr
     )
 }
 
-/// Returns the first words of `reason`, for which a delivered event or query is ignored.
+/// Returns the first words for `reason`, the reason why a delivered event or query is ignored.
 pub(crate) fn first_words(reason: Reason) -> &'static [u8]
     ensures { result.now ≡ first_words reason }
 {
@@ -135,9 +138,10 @@ pub(crate) fn first_words(reason: Reason) -> &'static [u8]
     }
 }
 
-/// Appends the words of `reason` that follow its first ones, for an event or a query (`name`) that was ignored. `time`
-/// is its time, `bytes` is the length of its name and payload together, and `takes` has the limits of its agent.
-pub(crate) fn write_left(
+/// Appends the detail that follows the first words for `reason`. The agent ignored an event or a query with the time
+/// `time`, and `name` states which of the two it was. `bytes` is the total length of the name and the payload that it
+/// carried, and `takes` contains the limits of the agent.
+pub(crate) fn write_ignored_detail(
     out: &mut Vec<u8>,
     takes: &Takes,
     name: &[u8],

@@ -1,5 +1,5 @@
-//! Keeps marks: the present value of each agent's clocks and minimums, and the action that set it. It also keeps what
-//! is known of each agent's disk.
+//! Keeps the marks of each agent. A mark is the present value of a clock or a minimum, together with the number of the
+//! action that set this value. The module also keeps facts about each agent's disk.
 
 ghost use Rattle.std.specs.Prelude.{◌≡◌, ◌++◌, ◌+◌, ◌∷◌, [], List, ℕ, OnOk, length};
 ghost use Rattle.std.specs.Option.{option_copied};
@@ -15,8 +15,8 @@ use serf_snapshot::MemorySink;
 use serf_world::World;
 use std::alloc::{AllocError, Global};
 
-/// The value of a clock or a minimum, and the number of the action that set it. The number is 0 if the value dates from
-/// the start of the run.
+/// The value of a clock or a minimum, and the number of the action that set this value. The action number is 0 if the
+/// value dates from the start of the run.
 #[derive(Clone, Copy)]
 pub(crate) struct Mark {
     pub(crate) value: u64,
@@ -24,14 +24,15 @@ pub(crate) struct Mark {
 }
 
 impl Mark {
-    /// Returns the mark of each clock and each minimum at the beginning of an agent's first life: 1, since the start.
+    /// Returns the mark that every clock and every minimum has at the beginning of an agent's first life. In this mark,
+    /// the value is 1 and dates from the start of the run.
     fn first() -> Mark
         ensures { result ≡ first_mark }
     {
         Mark { value: 1, since: 0 }
     }
 
-    /// Returns the mark after action number `action`, which left the value at `value`.
+    /// Returns the mark after action number `action`. The value after this action is `value`.
     pub(crate) fn following(&self, value: u64, action: u64) -> Mark
         ensures { result ≡ mark_after self.now value action }
     {
@@ -46,7 +47,7 @@ impl Mark {
     }
 }
 
-/// The marks of an agent's clocks and minimums after the last action.
+/// The marks of an agent's clocks and minimums after the most recent action.
 #[derive(Clone, Copy)]
 pub(crate) struct Numbers {
     pub(crate) event_clock: Mark,
@@ -69,7 +70,7 @@ impl Numbers {
         }
     }
 
-    /// Returns the marks after action number `action`, which left `agent` in this state.
+    /// Returns the marks after action number `action`. `agent` is the agent as it is after this action.
     fn following(&self, agent: &Agent<MemorySink>, action: u64) -> Numbers
         ensures { result ≡ numbers_after self.now agent.now.concrete action }
     {
@@ -82,8 +83,8 @@ impl Numbers {
     }
 }
 
-/// A planned failure of the disk. `count` says which call fails, counted from 1 after action number `action`, which
-/// planned the failure. It is 0 if no failure is planned.
+/// A failure of the disk, planned by action number `action`. The call that fails has the number `count`, and calls are
+/// counted from 1 after the action that planned the failure. If no failure is planned, `count` is 0.
 #[derive(Clone, Copy)]
 pub(crate) struct Plan {
     pub(crate) count: u64,
@@ -96,21 +97,21 @@ const NO_PLAN: Plan = Plan {
     action: 0,
 };
 
-/// The state of an agent after the last action, and since when it has been so.
+/// The marks of an agent after the most recent action, together with facts about the agent's disk.
 #[derive(Clone, Copy)]
 pub(crate) struct Marks {
     pub(crate) numbers: Numbers,
-    /// The number of bytes that its disk keeps.
+    /// The number of durable bytes on the agent's disk.
     pub(crate) durable: usize,
-    /// The number of the action at which the agent was stopped, or 0 if it is running.
+    /// The number of the action at which the agent was stopped, or 0 if the agent is running.
     pub(crate) stopped: u64,
-    /// The planned failure of each kind of disk call.
+    /// The failures that are planned for the disk, with one plan for each kind of disk call.
     pub(crate) append: Plan,
     pub(crate) flush: Plan,
     pub(crate) replace: Plan,
 }
 
-/// Returns the number of bytes that an agent's disk keeps.
+/// Returns the number of durable bytes on an agent's disk.
 pub(crate) fn bytes_kept(agent: &Agent<MemorySink>) -> usize
     ensures { result ≡ bytes_kept agent.now.concrete }
 {
@@ -132,8 +133,8 @@ impl Marks {
         }
     }
 
-    /// Returns the number of the action at which `agent` was stopped, or 0 if it is running. `action` is the number of
-    /// the agent's last action.
+    /// Returns the number of the action at which `agent` was stopped, or 0 if the agent is running. `action` is the
+    /// number of the agent's last action.
     fn stopped_after(&self, agent: &Agent<MemorySink>, action: u64) -> u64 {
         if !agent.is_stopped() {
             0
@@ -144,7 +145,7 @@ impl Marks {
         }
     }
 
-    /// Returns the marks after action number `action`, which left `agent` in this state.
+    /// Returns the marks after action number `action`. `agent` is the agent as it is after this action.
     fn following(&self, agent: &Agent<MemorySink>, action: u64) -> Marks
         ensures { result.numbers ≡ numbers_after self.now.numbers agent.now.concrete action }
     {
@@ -158,7 +159,8 @@ impl Marks {
         }
     }
 
-    /// Records the failure that `act`, action number `number`, planned. A restart cancels all planned failures.
+    /// Records the disk failure that `act`, which is action number `number`, plans. A restart cancels all planned
+    /// failures.
     fn plan(&mut self, act: &Act, number: u64)
         ensures { self.new.numbers ≡ self.old.numbers }
     {
@@ -184,7 +186,7 @@ impl Marks {
     }
 }
 
-/// Returns the marks that were found for an agent, or if there are none, those of an agent that has done nothing yet.
+/// Returns the marks in `found`, or the marks of an agent that has done nothing yet if `found` is `None`.
 fn found_or_first(found: Option<&Marks>) -> Marks
     ensures { result.numbers ≡ marks_or_first (option_copied found.entry) }
 {
@@ -194,15 +196,15 @@ fn found_or_first(found: Option<&Marks>) -> Marks
     }
 }
 
-/// The marks of each agent after the last action, by the agent's number. An agent that has done nothing yet has no
-/// entry.
+/// The marks of each agent after the most recent action, by the agent's number. An agent that has done nothing yet has
+/// no entry.
 #[derive(Drop)]
 pub(crate) struct AllMarks {
     agents: IndexMap<u64, Marks>,
 }
 
 impl AllMarks {
-    /// Starts a run in which no agent has done anything yet. Allocates no memory.
+    /// Creates the marks for a run in which no agent has done anything yet. Allocates no memory.
     pub(crate) fn new(alloc: Global) -> AllMarks
         ensures { (a : ℕ) → numbers_of result a ≡ first_numbers }
     {
@@ -218,7 +220,8 @@ impl AllMarks {
         found_or_first(self.agents.get(&agent))
     }
 
-    /// Updates the marks of agent number `actor` after `act`, action number `number`, which left `agent` in this state.
+    /// Updates the marks of agent number `actor` after `act`, which is action number `number`. `agent` is the agent as
+    /// it is after this action.
     #[tactic(auto, using(crate::proofs::MarkLaws::looked))]
     fn inspect(
         &mut self,
@@ -234,8 +237,8 @@ impl AllMarks {
         set(&mut self.agents, actor, marks)
     }
 
-    /// Updates the marks of the agent that did `action`, whose number is `number`. `world` is the cluster after the
-    /// action.
+    /// Updates the marks of the agent that performed `action`, which is action number `number`. `world` is the cluster
+    /// after the action.
     pub(crate) fn record_turn(
         &mut self,
         world: &World,

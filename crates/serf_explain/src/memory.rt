@@ -21,7 +21,7 @@ use std::alloc::{AllocError, Global};
 use std::hash::Hash;
 use std::mem;
 
-/// A query that agent number `agent` accepted, by its time and its ID.
+/// A query that agent number `agent` accepted, identified by the query's time and ID.
 #[derive(Clone, Copy, PartialEq, Eq, Hash)]
 pub(crate) struct QueryKey {
     pub(crate) agent: u64,
@@ -29,14 +29,14 @@ pub(crate) struct QueryKey {
     pub(crate) id: u32,
 }
 
-/// How a query that an agent fired ended.
+/// Whether a query that an agent fired has ended, and how it ended.
 #[derive(Clone, Copy)]
 pub(crate) enum Ended {
-    /// It is still open.
+    /// The query is still open.
     Not,
-    /// It was closed by the action with this number.
+    /// The action with this number closed the query.
     Closed(u64),
-    /// It was lost when its agent was opened again, by the action with this number.
+    /// The agent lost the query when the action with this number opened the agent again.
     Lost(u64),
 }
 
@@ -47,12 +47,13 @@ pub(crate) struct Firing {
     pub(crate) ended: Ended,
 }
 
-/// What is remembered of the queries of a run.
+/// The queries of a run, to which the reasons for later actions can refer.
 #[derive(Drop)]
 pub(crate) struct Memory {
-    /// The number of the last action at which each query entered its agent.
+    /// For each query of an agent, the number of the last action at which the agent accepted or fired the query.
     queries: IndexMap<QueryKey, u64>,
-    /// The query that each agent fired at each time.
+    /// For each agent and each time, the action at which the agent fired a query with this time, and how the query
+    /// ended.
     fired_queries: IndexMap<Moment, Firing>,
     /// The fired queries that are still open.
     pending: Vec<Moment>,
@@ -73,7 +74,7 @@ pub(crate) fn set<K: Eq + Hash + Drop, V: Drop>(
     }
 }
 
-/// Returns the query in `message`, as a query of agent number `agent`. Any other message contains none.
+/// If `message` is a query, returns it as a query of agent number `agent`, and otherwise returns `None`.
 fn query_read(agent: u64, message: &Message) -> Option<QueryKey>
     ensures { result ≡ query_read agent (Some (message_of message.now)) }
 {
@@ -90,7 +91,7 @@ fn query_read(agent: u64, message: &Message) -> Option<QueryKey>
     }
 }
 
-/// Returns the query that `action` passes to its agent, if `answer` says that the query was new to the agent.
+/// Returns the query that `action` passed to its agent, but only if `answer` shows that the query was new to the agent.
 fn query_new(world: &World, action: &Action, agent: u64, answer: Answer) -> Option<QueryKey>
     ensures { result ≡ query_new agent answer
         (message_given (packet_given world.now.sent action.now)) }
@@ -104,15 +105,15 @@ fn query_new(world: &World, action: &Action, agent: u64, answer: Answer) -> Opti
     }
 }
 
-/// Returns the query that `agent` fired at `time`, if it is still open.
+/// Returns the open query that `agent` fired at `time`, or `None` if there is no such query.
 pub(crate) fn open_query(agent: &Agent<MemorySink>, time: u64) -> Option<&OpenQuery>
     ensures { option_copied result ≡ open_at time agent.now.concrete.fired_queries }
 {
     agent.open_query(Time::new(time)?)
 }
 
-/// Returns whether the query that was fired at `moment`, which was open, is still open after an action of agent number
-/// `agent`.
+/// Returns whether a query is still open after an action of agent number `agent`. The query was fired at `moment`, and
+/// was open before the action.
 fn stays_open(world: &World, agent: u64, moment: Moment) -> bool
     ensures { result ≡ stays_open world.now agent moment }
 {
@@ -126,7 +127,7 @@ fn stays_open(world: &World, agent: u64, moment: Moment) -> bool
 }
 
 impl Memory {
-    /// Starts with nothing remembered. Allocates no memory.
+    /// Creates an empty memory. Allocates no memory.
     pub(crate) fn new(alloc: Global) -> Memory
         ensures { RemembersNothing result }
     {
@@ -137,7 +138,8 @@ impl Memory {
         }
     }
 
-    /// Returns the number of the action at which a query entered an agent, if it is known.
+    /// Returns the number of the action at which an agent accepted or fired a query, or `None` if this number isn't
+    /// known.
     pub(crate) fn entered_at(&self, agent: u64, time: u64, id: u32) -> Option<u64>
         ensures { result ≡ get same_query self.now.queries
             (record { agent = agent; time = time; id = id }) }
@@ -145,7 +147,8 @@ impl Memory {
         self.queries.get(&QueryKey { agent, time, id }).copied()
     }
 
-    /// Returns what is known of the query that an agent fired at a time.
+    /// Returns which action fired the query of agent number `agent` with the time `time`, and how this query ended.
+    /// Returns `None` if the agent fired no query with this time.
     pub(crate) fn fired_query_at(&self, agent: u64, time: u64) -> Option<Firing>
         ensures { result ≡ get same_moment self.now.fired_queries
             (record { agent = agent; time = time }) }
@@ -171,8 +174,9 @@ impl Memory {
         Ok(())
     }
 
-    /// Records whether the query of `moment`, which was open, is still open after an action of agent number `agent`. If
-    /// it isn't, it ended as `ended` says.
+    /// Keeps the query of `moment` in the list of open queries if the query is still open after an action of agent
+    /// number `agent`. If the query is no longer open, the function records `ended` as the way in which the query
+    /// ended.
     fn end_or_keep(
         &mut self,
         world: &World,
@@ -225,7 +229,7 @@ impl Memory {
         Ok(())
     }
 
-    /// Records what an action did to the queries of its agent.
+    /// Records the effect of an action on the queries of its agent.
     #[tactic(auto, using(crate::proofs::MemoryLaws::injected_is, crate::proofs::MemoryLaws::brought_is, crate::proofs::MemoryLaws::nothing_brought, crate::proofs::MemoryLaws::fired_is, crate::proofs::MemoryLaws::nothing_fired, crate::proofs::MemoryLaws::closed_is, crate::proofs::MemoryLaws::lost_is))]
     pub(crate) fn record_turn(
         &mut self,

@@ -1,4 +1,4 @@
-//! Makes the line of each event that a state carries, with the verdict on it, before the state is merged.
+//! Makes a line with a verdict for each event that a state carries, before the state is merged.
 
 ghost use Rattle.std.specs.Prelude.{◌≡◌, ◌++◌, ◌∷◌, [], true, OnOk};
 ghost use Rattle.serf_wire.specs.Lists.{event_of_view, events_left, slot_of_view, slots_left};
@@ -14,9 +14,9 @@ ghost use Rattle.serf_explain.specs.Recorded.{event_as};
 ghost use Rattle.serf_text.specs.Quoted.{stands};
 
 use crate::deliveries::Event;
-use crate::left::{Takes, write_left};
+use crate::left::{Takes, write_ignored_detail};
 use crate::merge_line::Merging;
-use crate::quoted::{say, write_because, write_event, write_standing_event};
+use crate::quoted::{say, write_because, write_event, write_unescaped_event};
 use crate::seen::write_handed;
 use crate::verdict_reason::Judge;
 use serf_agent::{Agent, Reason};
@@ -26,22 +26,23 @@ use serf_text::{stands, write_number};
 use serf_wire::{EventView, EventViews, SlotView, SlotViews};
 use std::alloc::{AllocError, Global};
 
-/// The index of the delivery that was named last, and the index at which the search for the next one begins.
+/// The index of the delivery that was named most recently, and the index at which the search for the next delivery
+/// begins.
 #[derive(Clone, Copy)]
 pub(crate) struct Cursor {
     named: usize,
     next: usize,
 }
 
-/// The lines about the events of a merge, and buffers for making one of them.
+/// The lines about the events in a merge, and the buffers in which each line is put together.
 #[derive(Drop)]
 pub(crate) struct MergeLines {
     pub(crate) text: Vec<u8>,
-    /// The minimum for events after the merge, if the merge raises it.
+    /// The new minimum for events if the merge raises the minimum, and `None` otherwise.
     pub(crate) raised: Option<u64>,
-    /// A buffer for the words of an event: its time, its name and its payload.
+    /// A buffer for the words that describe an event: its time, its name and its payload.
     words: Vec<u8>,
-    /// A buffer for the words of a verdict that follow its first ones.
+    /// A buffer for the detail that follows the first words of a verdict.
     detail: Vec<u8>,
     /// A buffer for a whole reason.
     reason: Vec<u8>,
@@ -49,7 +50,7 @@ pub(crate) struct MergeLines {
 }
 
 impl MergeLines {
-    /// Starts without any lines. Allocates no memory.
+    /// Creates a value whose lines and buffers are all empty. Allocates no memory.
     pub(crate) fn new(alloc: Global) -> MergeLines {
         MergeLines {
             text: Vec::new(alloc),
@@ -62,7 +63,8 @@ impl MergeLines {
     }
 }
 
-/// Returns the first words of `verdict`, which is the reason why an event is ignored, or `None` for a new event.
+/// Returns the first words for `verdict`, which is either the reason why an event is ignored, or `None` for a new
+/// event.
 fn verdict_word(verdict: Option<Reason>) -> &'static [u8]
     ensures { result.now ≡ verdict_words verdict }
 {
@@ -77,7 +79,7 @@ fn verdict_word(verdict: Option<Reason>) -> &'static [u8]
     }
 }
 
-/// Appends the words that precede an event of slot number `slot` of a state.
+/// Appends the words that precede an event in slot number `slot` of a state.
 #[tactic(auto, unfolding(crate::specs::Carried::slot_words))]
 fn write_slot_words(out: &mut Vec<u8>, slot: u64) -> Result<(), AllocError>
     ensures { OnOk result (out.new.items ≡ out.old.items ++ slot_words slot) }
@@ -86,7 +88,7 @@ fn write_slot_words(out: &mut Vec<u8>, slot: u64) -> Result<(), AllocError>
     out.extend_from_slice(b" carries ")
 }
 
-/// Appends the reason of `event`, an event of slot number `slot`: the first words of `verdict`, followed by `detail`.
+/// Appends the reason for `event`, which is in slot number `slot`: the first words for `verdict`, followed by `detail`.
 #[tactic(auto, unfolding(crate::specs::Carried::carried_words))]
 fn write_carried(
     out: &mut Vec<u8>,
@@ -106,7 +108,7 @@ fn write_carried(
     out.extend_from_slice(detail)
 }
 
-/// Returns the agent's limits for events at this point of the merge, as `judge` knows them.
+/// Returns the limits for events that apply to the agent at this point of the merge, according to `judge`.
 fn takes_of(merging: &Merging, judge: &Judge) -> Takes
     ensures { result ≡ judge_takes merging.now judge.now }
 {
@@ -119,13 +121,15 @@ fn takes_of(merging: &Merging, judge: &Judge) -> Takes
     }
 }
 
-/// Returns the number of the action that handed the agent `event`, which was seen: an earlier action, or the merge
-/// itself. If the agent was opened on a text with the event's line instead, there is no such action.
+/// Returns the number of the action that handed `event` to the agent. The agent has already seen the event, and the
+/// action is either an earlier one or the merge itself. If no action handed the event out, because the agent was opened
+/// on a text that contains the event's line, the function returns `None`.
 fn handed_at(merging: &Merging, judge: &Judge, cursor: &mut Cursor, event: &Event) -> Option<u64>
     ensures handed { (i j : IdealAgent) → IsJudging i (after_event j (event_as event.now)) judge.now
         → admission j event.now.time (event_as event.now).key ≡ Some Reason.Seen
         → IsHandedIn i j merging.now (event_as event.now) result }
-    // A delivery at the index at which the search begins is found there, and the next search begins after it.
+    // If the delivery is at the index at which the search begins, the function finds the delivery there, and begins the
+    // next search after this index.
     ensures cursor { stands_at
         (records_in merging.now.history.now.deliveries.outs.items) cursor.old.next
         merging.now.agent_number event.now.time (event_as event.now).key ≡ true
@@ -151,8 +155,8 @@ fn handed_at(merging: &Merging, judge: &Judge, cursor: &mut Cursor, event: &Even
     }
 }
 
-/// Appends the words of `verdict` on `event` that follow its first ones. `handed` is the action that handed out the
-/// event, if there is one.
+/// Appends the detail that follows the first words of `verdict`, the verdict on `event`. `handed` is the number of the
+/// action that handed out the event, or `None` if no action did.
 fn write_detail(
     out: &mut Vec<u8>,
     merging: &Merging,
@@ -172,15 +176,15 @@ fn write_detail(
             }
             _ => {
                 let takes = takes_of(merging, judge);
-                write_left(out, &takes, b"event", event.time, event.bytes(), reason)
+                write_ignored_detail(out, &takes, b"event", event.time, event.bytes(), reason)
             }
         },
         None => Ok(()),
     }
 }
 
-/// Adds the line of `event`, with the `verdict` on it. If the event was seen, `handed` is the action that handed it
-/// out.
+/// Adds the line for `event`, with the `verdict` on the event. If the agent has seen the event, `handed` is the number
+/// of the action that handed out the event, or `None` if no action did.
 fn add_carried(
     merging: &Merging,
     judge: &Judge,
@@ -201,8 +205,8 @@ fn add_carried(
     write_because(&mut lines.text, merging.number, &lines.reason)
 }
 
-/// Appends the first part of the line of an event that was seen: its beginning, `front`, its slot, and `words`, which
-/// describe the event.
+/// Appends the first part of the line for an event that the agent has seen. The first part consists of the line's
+/// beginning (`front`), the event's slot, and the words that describe the event (`words`).
 #[tactic(auto, unfolding(crate::specs::Judging::seen_front))]
 fn write_seen_front(
     out: &mut Vec<u8>,
@@ -219,8 +223,8 @@ fn write_seen_front(
     out.extend_from_slice(words)
 }
 
-/// Appends the rest of the line of an event that was seen, which says that the agent was handed the event at `action`.
-/// `words` describe the event.
+/// Appends the rest of the line for an event that the agent has seen. The rest states that action number `action`
+/// handed the event to the agent. The argument `words` describes the event.
 #[tactic(auto, unfolding(crate::specs::Judging::seen_after))]
 fn write_seen_after(
     out: &mut Vec<u8>,
@@ -238,9 +242,9 @@ fn write_seen_after(
     out.extend_from_slice(b"\n")
 }
 
-/// Adds the line of an event that was seen, if its texts and the agent's name are shown unchanged. It inspects each
-/// byte only once.
-fn add_standing(
+/// Adds the line for an event that the agent has seen. The function requires that the event's name and payload, and the
+/// agent's name, are shown unchanged. The function inspects each byte only once.
+fn add_unescaped(
     merging: &Merging,
     lines: &mut MergeLines,
     slot: u64,
@@ -255,7 +259,7 @@ fn add_standing(
         (event_of event.now.name.now event.now.payload.now) (Some Reason.Seen)) }
 {
     lines.words.clear();
-    write_standing_event(&mut lines.words, event.time, event.name, event.payload)?;
+    write_unescaped_event(&mut lines.words, event.time, event.name, event.payload)?;
     let front = merging.front.as_slice();
     let named = merging.named.as_slice();
     let words = lines.words.as_slice();
@@ -263,7 +267,8 @@ fn add_standing(
     write_seen_after(&mut lines.text, named, words, action)
 }
 
-/// Adds the line of `event`, which was seen. `handed` is the action that handed it out, if there is one.
+/// Adds the line for `event`, which the agent has seen. `handed` is the number of the action that handed out the event,
+/// or `None` if no action did.
 fn add_seen(
     merging: &Merging,
     judge: &Judge,
@@ -278,7 +283,7 @@ fn add_seen(
 {
     match handed {
         Some(action) if merging.is_plain && stands(event.name) && stands(event.payload) => {
-            add_standing(merging, lines, slot, event, action)
+            add_unescaped(merging, lines, slot, event, action)
         }
         _ => add_carried(
             merging,
@@ -292,8 +297,8 @@ fn add_seen(
     }
 }
 
-/// Adds the line of `event`, an event of slot number `slot`. `verdict` is the reason why it is ignored, or `None` if it
-/// is new.
+/// Adds the line for `event`, which is in slot number `slot`. `verdict` is the reason why the event is ignored, or
+/// `None` for a new event.
 fn add_line(
     merging: &Merging,
     judge: &Judge,
@@ -319,8 +324,8 @@ fn add_line(
     }
 }
 
-/// Judges `event`, the next event of the state, and adds its line. The event is in slot number `slot`, and its time is
-/// `time`.
+/// Judges `event`, the next event in the state, and adds the line for this event. The event is in slot number `slot`,
+/// and its time is `time`.
 fn add_event(
     alloc: Global,
     merging: &Merging,
@@ -349,7 +354,7 @@ fn add_event(
     add_line(merging, judge, lines, slot, &lying, verdict)
 }
 
-/// Adds a line for each of `events`, which are in slot number `slot` and have the time `time`.
+/// Adds a line for each event in `events`, all of which are in slot number `slot` and have the time `time`.
 fn add_events(
     alloc: Global,
     merging: &Merging,
@@ -398,7 +403,7 @@ fn add_slot(
     }
 }
 
-/// Adds a line for each event of `slots`, which are numbered from 0.
+/// Adds a line for each event in `slots`. The slots are numbered from 0.
 fn add_slots(
     alloc: Global,
     merging: &Merging,
@@ -420,8 +425,8 @@ fn add_slots(
     Ok(())
 }
 
-/// Adds a line for each event that a state carries, in the state's order, with the verdict that the event gets if the
-/// disk works. It also finds out whether the merge raises the minimum for events.
+/// For each event that a state carries, in the order of the state, adds a line with the verdict that the event gets if
+/// the disk works. The function also finds out whether the merge raises the minimum for events.
 #[tactic(auto, using(crate::proofs::CarriedLaws::adds_state))]
 pub(crate) fn add_carried_lines(
     alloc: Global,

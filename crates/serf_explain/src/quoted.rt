@@ -1,4 +1,4 @@
-//! Writes the line of a reason, and the words for an event.
+//! Writes the line that contains a reason, and the words that describe an event.
 
 ghost use Rattle.std.specs.Prelude.{◌≡◌, ◌++◌, decimal, true, OnOk};
 ghost use Rattle.serf_text.specs.Quoted.{stands};
@@ -9,7 +9,8 @@ ghost use Rattle.serf_explain.specs.Words.{event_words, standing_texts};
 use serf_text::{write_number, write_printable, write_quoted};
 use std::alloc::AllocError;
 
-/// Appends the line of a reason of action number `number`. The only control byte in it is the newline at its end.
+/// Appends the line that contains `reason`, a reason for action number `number`. The newline at the end is the only
+/// control byte in the line.
 #[tactic(auto, unfolding(crate::specs::Because::because_line))]
 pub(crate) fn write_because(out: &mut Vec<u8>, number: u64, reason: &[u8]) -> Result<(), AllocError>
     ensures { OnOk result (out.new.items ≡ out.old.items ++ because_line number reason.now) }
@@ -20,7 +21,7 @@ pub(crate) fn write_because(out: &mut Vec<u8>, number: u64, reason: &[u8]) -> Re
     out.extend_from_slice(b"\n")
 }
 
-/// Appends a text and then a number.
+/// Appends `text`, followed by `number`.
 pub(crate) fn say(out: &mut Vec<u8>, text: &[u8], number: u64) -> Result<(), AllocError>
     ensures { OnOk result (out.new.items ≡ out.old.items ++ text.now ++ decimal number) }
 {
@@ -46,7 +47,7 @@ pub(crate) fn write_event(
     write_quoted(out, payload)
 }
 
-/// Appends `name` and `payload` between quotes, with every byte unchanged.
+/// Appends `name` and `payload`, each in quotes, with every byte unchanged.
 #[tactic(auto, unfolding(crate::specs::Words::standing_texts))]
 fn write_standing_texts(out: &mut Vec<u8>, name: &[u8], payload: &[u8]) -> Result<(), AllocError>
     ensures { OnOk result (out.new.items ≡ out.old.items ++ standing_texts name.now payload.now) }
@@ -58,8 +59,9 @@ fn write_standing_texts(out: &mut Vec<u8>, name: &[u8], payload: &[u8]) -> Resul
     out.extend_from_slice(b"\"")
 }
 
-/// Appends an event in the form `event 3 "deploy" "v2"`. Both of its texts are shown unchanged.
-pub(crate) fn write_standing_event(
+/// Appends an event in the form `event 3 "deploy" "v2"`. Both the name and the payload of the event are shown
+/// unchanged.
+pub(crate) fn write_unescaped_event(
     out: &mut Vec<u8>,
     time: u64,
     name: &[u8],

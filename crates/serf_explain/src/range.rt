@@ -2,12 +2,12 @@
 
 ghost use Rattle.std.specs.Prelude.{◌≡◌};
 
-/// The actions that are explained: those of one agent or of all agents, from one number to another. Actions are
-/// numbered from 1.
+/// Selects the actions of one agent or of all agents, from a first action number to a last one. Actions are numbered
+/// from 1.
 #[derive(Clone, Copy, PartialEq, Eq)]
 pub struct Range {
-    /// The number of the agent whose actions are explained. With `None`, the actions of all agents and injections are
-    /// explained.
+    /// The number of the agent whose actions are explained. If `agent` is `None`, the actions of all agents and all
+    /// injections are explained.
     pub agent: Option<u64>,
     /// The number of the first action that is explained.
     pub from: u64,
@@ -18,7 +18,7 @@ pub struct Range {
 impl Range {
     ghost use Rattle.serf_explain.specs.Range.{is_shown, is_wanted};
 
-    /// Returns whether the actions of agent number `actor` are explained. `None` stands for injections.
+    /// Returns whether the actions of agent number `actor` are explained. For an injection, `actor` is `None`.
     fn wants(&self, actor: Option<u64>) -> bool
         ensures { result ≡ is_wanted self.now.agent actor }
     {
@@ -29,7 +29,8 @@ impl Range {
         }
     }
 
-    /// Returns whether action number `number` of agent number `actor` is explained. An injection has the actor `None`.
+    /// Returns whether action number `number`, which agent number `actor` performs, is explained. For an injection,
+    /// `actor` is `None`.
     pub fn shows(&self, number: u64, actor: Option<u64>) -> bool
         ensures { result ≡ is_shown self.now number actor }
     {

@@ -1,4 +1,4 @@
-//! Writes the reasons of a run, turn by turn.
+//! Writes the reasons for the actions of a run, turn by turn.
 
 ghost use Rattle.std.specs.Prelude.{◌≡◌, [], List, ℕ, OnOk};
 ghost use Rattle.std.specs.List.{flat_map};
@@ -17,7 +17,8 @@ use serf_schedule::{lines_stay, write_action};
 use serf_world::{Turns, World};
 use std::alloc::{AllocError, Global};
 
-/// Appends the trace lines of an action and the lines of its reasons if `is_shown`, and nothing otherwise.
+/// If `is_shown` is true, appends the trace lines of an action and the lines with the action's reasons. If `is_shown`
+/// is false, the function appends nothing.
 fn write_turn(
     alloc: Global,
     out: &mut Vec<u8>,
@@ -39,21 +40,21 @@ fn write_turn(
     write_reasons(alloc, out, context)
 }
 
-/// Writes the trace of a run with its reasons. It keeps what it remembers of the run, so that reasons can name earlier
-/// actions: a few numbers for each agent, each event that was handed out, and each query that an agent accepted or
-/// fired.
+/// Writes the trace of a run together with the reasons. To be able to name earlier actions, a `Reasoning` remembers a
+/// few numbers for each agent, each event that was handed out, and each query that an agent accepted or fired.
 #[derive(Drop)]
 pub struct Reasoning {
     history: History,
-    /// The reasons of a merge, which are made before the merge is done. The next merge uses the same buffers.
+    /// The lines with the reasons for a merge, which are put together before the merge is carried out. Each merge
+    /// reuses the same buffers.
     lines: MergeLines,
     /// The actions that are shown and explained.
     range: Range,
 }
 
 impl Reasoning {
-    /// Starts the reasoning of a run that has done no action yet, which explains the actions in `range`. Allocates no
-    /// memory.
+    /// Starts the reasoning for a run in which no action has been carried out yet. The actions in `range` will be
+    /// explained. Allocates no memory.
     pub fn new(alloc: Global, range: Range) -> Reasoning
         ensures { (configs : List Config) → Reasoned range result configs [] [] }
     {
@@ -106,7 +107,8 @@ impl Turns for Reasoning {
         _seen: (),
         out: &mut Vec<u8>,
     ) -> Result<(), AllocError> {
-        // for the prover: a line stays the same when more packets are sent, and every run keeps its promises
+        // The prover needs the laws that a line stays the same when more packets are sent, and that every run keeps its
+        // promises.
         lines_stay();
         run_promises();
         let context = TurnContext {

@@ -1,4 +1,5 @@
-//! Writes the lines of an action's reasons: one line, or for a merge, one line for each event of its state.
+//! Writes the lines that contain the reasons for an action. A merge has one line for each event in the merged state. An
+//! action that isn't a merge has a single line.
 
 ghost use Rattle.std.specs.Prelude.{◌≡◌, ◌+◌, ◌++◌, ◌∷◌, [], true, Ok, OnOk, List, ℕ, Some, length};
 ghost use Rattle.std.specs.List.{flat_map};
@@ -17,7 +18,7 @@ ghost use Rattle.serf_explain.specs.Carried.{Known, TellsMerged, raised_reasons}
 ghost use Rattle.serf_explain.specs.Explained.{TellsAll};
 ghost use Rattle.serf_explain.specs.Deliveries.{records_from, records_in};
 ghost use Rattle.serf_explain.specs.Judging.{AddsMerge, IsMerging, TellsText, merged_of};
-ghost use Rattle.serf_explain.specs.Leaving.{HoldMarks, IsMark, clock_said, hears_nothing, numbers_of, unheard_min};
+ghost use Rattle.serf_explain.specs.Leaving.{HoldMarks, IsMark, state_event_clock, hears_nothing, numbers_of, unheard_min};
 ghost use Rattle.serf_explain.specs.Recorded.{message_given};
 
 use crate::answers::write_reason;
@@ -37,14 +38,14 @@ use serf_wire::{Message, decode};
 use serf_world::World;
 use std::alloc::{AllocError, Global};
 
-/// The length, in bytes, that most reasons don't exceed.
+/// A length in bytes that is sufficient for most reasons.
 pub(crate) const USUAL_BYTES: usize = 160;
 
-/// The last words of the reason of a new event in a merge. No other reason ends with them.
+/// The words that end the reason for a new event in a merge. No other reason ends with these words.
 const NEW_WORDS: &[u8] = b"new, and handed out";
 
-/// Adds to `lines` a line for each event of `message` if it is a state, which is to be merged. Any other message adds
-/// nothing.
+/// If `message` is a state, which the agent is about to merge, adds to `lines` a line for each event in the state. If
+/// `message` is anything else, the function adds nothing.
 fn add_message(
     alloc: Global,
     merging: &Merging,
@@ -69,8 +70,8 @@ fn add_message(
     }
 }
 
-/// Adds to `lines` a line for each event of the state in `packet`, which is to be merged. A packet without a state adds
-/// nothing.
+/// Adds to `lines` a line for each event in the state that `packet` contains and that is about to be merged. If the
+/// packet doesn't contain a state, the function adds nothing.
 fn add_packet(
     alloc: Global,
     merging: &Merging,
@@ -89,8 +90,8 @@ fn add_packet(
     }
 }
 
-/// Adds to `lines` a line for each event of the state in `packet`, which action number `number` is about to merge into
-/// `agent`, agent number `agent_number`.
+/// Adds to `lines` a line for each event in the state that `packet` contains. Action number `number` is about to merge
+/// this state into `agent`, whose number is `agent_number`.
 fn add_merge(
     alloc: Global,
     history: &History,
@@ -118,8 +119,8 @@ fn add_merge(
     add_packet(alloc, &merging, packet, is_join, lines)
 }
 
-/// Adds to `lines` a line for each event of the state in packet number `packet`, which is about to be merged into agent
-/// number `agent`.
+/// Adds to `lines` a line for each event in the state that packet number `packet` contains. The state is about to be
+/// merged into agent number `agent`.
 fn add_merge_at(
     alloc: Global,
     world: &World,
@@ -147,8 +148,8 @@ fn add_merge_at(
     }
 }
 
-/// Replaces `lines` with the lines for the events of the state that `action` is about to merge. There are none if the
-/// action isn't a merge.
+/// Replaces `lines` with the lines for the events in the state that `action` is about to merge. If the action isn't a
+/// merge, `lines` becomes empty.
 #[tactic(auto, using(crate::proofs::MergeLaws::told_of))]
 pub(crate) fn lines_before(
     alloc: Global,
@@ -178,14 +179,14 @@ pub(crate) fn lines_before(
     }
 }
 
-/// Appends the line of `reason`, a reason of action number `number`.
+/// Appends the line that contains `reason`, a reason for action number `number`.
 fn write_one(out: &mut Vec<u8>, number: u64, reason: &[u8]) -> Result<(), AllocError>
     ensures { OnOk result (AddsSome number out.old.items out.new.items) }
 {
     write_because(out, number, reason)
 }
 
-/// Appends the line of an action's only reason.
+/// Appends the line that contains the only reason for an action.
 pub(crate) fn write_lone(
     alloc: Global,
     out: &mut Vec<u8>,
@@ -198,8 +199,8 @@ pub(crate) fn write_lone(
     write_one(out, context.number, reason.as_slice())
 }
 
-/// Appends the line which says that a join raises the minimum for events to `raised`. If it doesn't, nothing is
-/// appended.
+/// If a join raises the minimum for events to `raised`, appends a line that states the new minimum. If `raised` is
+/// `None`, the function appends nothing.
 fn write_raised(
     alloc: Global,
     out: &mut Vec<u8>,
@@ -221,8 +222,8 @@ fn write_raised(
     write_because(out, number, &reason)
 }
 
-/// Appends `lines`, the lines for the events of a merged state, or if there are none, a line which says that the state
-/// carries no event.
+/// Appends `lines`, the lines for the events in a merged state. If `lines` is empty, the function appends a line
+/// stating that the state carries no event.
 fn write_events(out: &mut Vec<u8>, number: u64, lines: &[u8]) -> Result<(), AllocError>
     ensures { (carried : List (List ℕ)) → lines.now ≡ flat_map (because_line number) carried
         → OnOk result (out.new.items
@@ -235,8 +236,8 @@ fn write_events(out: &mut Vec<u8>, number: u64, lines: &[u8]) -> Result<(), Allo
     Ok(())
 }
 
-/// Appends the lines of a merge that was done: the line about the minimum for events if it was raised to `raised`, and
-/// then `lines`, the lines about the state's events.
+/// Appends the lines about a completed merge. If the merge raised the minimum for events to `raised`, the first line
+/// states the new minimum. The lines about the state's events, which are in `lines`, follow.
 #[tactic(auto, using(crate::proofs::CarriedLaws::adds_merged))]
 fn write_merged(
     alloc: Global,
@@ -252,7 +253,7 @@ fn write_merged(
     write_events(out, number, lines)
 }
 
-/// Returns the reason in `line`, which is what follows its number and `because`.
+/// Returns the reason in `line`, that is, the part that follows the number and the word `because`.
 fn reason_in(line: &[u8]) -> &[u8] {
     let (_number, rest) = split_once(line, b' ');
     match rest {
@@ -264,7 +265,8 @@ fn reason_in(line: &[u8]) -> &[u8] {
     }
 }
 
-/// Appends the line of `reason`, or nothing if it is empty, as it is after the last line of a merge.
+/// Appends the line that contains `reason`. If `reason` is empty, as it is after the last line of a merge, the function
+/// appends nothing.
 fn write_again(out: &mut Vec<u8>, number: u64, reason: &[u8]) -> Result<(), AllocError>
     ensures { OnOk result (AddsReasons number out.old.items out.new.items) }
 {
@@ -274,8 +276,8 @@ fn write_again(out: &mut Vec<u8>, number: u64, reason: &[u8]) -> Result<(), Allo
     write_one(out, number, reason)
 }
 
-/// Returns the reason of the event at which the disk failed. `new` is the reason that the event gets if the disk works,
-/// namely that it is new.
+/// Returns the reason for the event at which the disk failed. `new` is the reason that the event would have had if the
+/// disk had worked, which states that the event is new.
 fn failed_reason(alloc: Global, actor: &Actor, new: &[u8]) -> Result<Vec<u8>, AllocError> {
     let mut reason = Vec::new(alloc);
     reason.extend_from_slice(new)?;
@@ -285,8 +287,8 @@ fn failed_reason(alloc: Global, actor: &Actor, new: &[u8]) -> Result<Vec<u8>, Al
     Ok(reason)
 }
 
-/// Appends a line for each event of a state, up to the event at which the disk failed.
-fn write_failed_merge(
+/// Appends a line for each event in a state, up to the event at which the disk failed.
+fn write_events_until_failure(
     alloc: Global,
     out: &mut Vec<u8>,
     context: &TurnContext,
@@ -309,7 +311,8 @@ fn write_failed_merge(
     write_lone(alloc, out, context)
 }
 
-/// Returns whether an agent wrote nothing in a merge whose first line is that of the minimum for events.
+/// Returns whether an agent wrote nothing in a merge in which it has to write the line with the minimum for events
+/// first.
 fn hears_nothing(actor: &Actor, is_join: bool) -> bool
     ensures { (p : PushPull) → result ≡ hears_nothing actor.now.agent.now.concrete
         actor.now.before.durable is_join p }
@@ -318,9 +321,9 @@ fn hears_nothing(actor: &Actor, is_join: bool) -> bool
     config.keep_events && is_join && config.ignore_old && bytes_kept(actor.agent) == before
 }
 
-/// Returns the event clock of the state that `message` carries, if it is a state.
-fn clock_said(message: &Message) -> Option<u64>
-    ensures { result ≡ clock_said (Some (message_of message.now)) }
+/// Returns the event clock of the state if `message` is a state, and `None` otherwise.
+fn state_event_clock(message: &Message) -> Option<u64>
+    ensures { result ≡ state_event_clock (Some (message_of message.now)) }
 {
     match message {
         Message::PushPull(state) => Some(state.event_clock),
@@ -331,7 +334,8 @@ fn clock_said(message: &Message) -> Option<u64>
     }
 }
 
-/// Returns the minimum for events whose line failed, so that nothing of the state was processed.
+/// If the disk failed at the line with the minimum for events, so that the agent processed no part of the state,
+/// returns this minimum.
 fn unheard_min(context: &TurnContext, actor: &Actor) -> Option<u64>
     ensures { result ≡ unheard_min actor.now.agent.now.concrete actor.now.before.durable
         actor.now.act.now (message_given
@@ -344,13 +348,13 @@ fn unheard_min(context: &TurnContext, actor: &Actor) -> Option<u64>
         return None;
     }
     match message_of(context) {
-        Some(message) => clock_said(&message),
+        Some(message) => state_event_clock(&message),
         None => None,
     }
 }
 
-/// Returns the reason for a merge in which nothing of a state was processed, because the disk failed at the line of the
-/// minimum for events, which is `lowest`.
+/// Returns the reason for a merge in which the agent processed no part of a state because the disk failed at the line
+/// with the minimum for events, which is `lowest`.
 fn unheard_reason(alloc: Global, actor: &Actor, lowest: u64) -> Result<Vec<u8>, AllocError> {
     let mut reason = Vec::with_capacity(alloc, USUAL_BYTES)?;
     say(
@@ -363,8 +367,10 @@ fn unheard_reason(alloc: Global, actor: &Actor, lowest: u64) -> Result<Vec<u8>, 
     Ok(reason)
 }
 
-/// Appends the reasons of a merge at which the disk failed. They say that nothing of the state was processed, or else
-/// that the minimum for events rose, if it did, followed by the reasons of the state's events.
+/// Appends the reasons for a merge during which the disk failed. If the agent processed no part of the state, the only
+/// reason states exactly this fact. If the agent processed a part of the state, there is a reason for each event up to
+/// the event at which the disk failed. If the minimum for events rose, a reason that states the new minimum precedes
+/// the reasons for the events.
 #[tactic(auto, using(crate::proofs::ReasonLaws::adds_raised))]
 fn write_broken_merge(
     alloc: Global,
@@ -381,12 +387,12 @@ fn write_broken_merge(
         }
         None => {
             write_raised(alloc, out, context.number, context.raised)?;
-            write_failed_merge(alloc, out, context, actor)
+            write_events_until_failure(alloc, out, context, actor)
         }
     }
 }
 
-/// Returns the agent that merged a state until its disk failed, or `None` for any other action.
+/// If the action is a merge that ended because the agent's disk failed, returns the agent, and otherwise `None`.
 fn failed_actor<'a>(context: &TurnContext<'a>) -> Option<Actor<'a>> {
     let Action::Of { agent, act } = context.action else {
         return None;
@@ -397,7 +403,7 @@ fn failed_actor<'a>(context: &TurnContext<'a>) -> Option<Actor<'a>> {
     }
 }
 
-/// Appends a line for each reason of an action that didn't merge a whole state.
+/// Appends a line for each of the reasons for an action that didn't merge a whole state.
 fn write_unmerged(alloc: Global, out: &mut Vec<u8>, context: &TurnContext) -> Result<(), AllocError>
     ensures { OnOk result (AddsSome context.now.number out.old.items out.new.items) }
 {
@@ -407,7 +413,7 @@ fn write_unmerged(alloc: Global, out: &mut Vec<u8>, context: &TurnContext) -> Re
     }
 }
 
-/// Appends a line for each reason of an action. There is at least one.
+/// Appends a line for each reason that an action has. Every action has at least one reason.
 #[tactic(auto, using(crate::proofs::LeftLaws::tells_ignored))]
 pub(crate) fn write_reasons(
     alloc: Global,

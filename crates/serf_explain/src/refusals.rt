@@ -11,7 +11,8 @@ use serf_text::{Part, write_template};
 use serf_wire::{Message, UserEvent, user_event_len};
 use std::alloc::AllocError;
 
-/// Appends `call`, the disk call that failed, and which action planned this failure, as `plan` says.
+/// Appends `call`, the words for the disk call that failed. If `plan` contains a planned failure, the function also
+/// appends the number of the action that planned the failure, and the number of the call that was to fail.
 fn write_plan(out: &mut Vec<u8>, call: &[u8], plan: Plan) -> Result<(), AllocError> {
     out.extend_from_slice(call)?;
     if plan.count == 0 {
@@ -22,7 +23,7 @@ fn write_plan(out: &mut Vec<u8>, call: &[u8], plan: Plan) -> Result<(), AllocErr
     out.extend_from_slice(b" from then on")
 }
 
-/// Appends at which call the disk failed.
+/// Appends an explanation of a disk error, which names the disk call that failed and states that the agent is stopped.
 pub(crate) fn write_sink_error(out: &mut Vec<u8>, actor: &Actor) -> Result<(), AllocError> {
     let before = actor.before;
     write_template(out, b"the disk of ~", &[named(actor.agent)])?;
@@ -38,7 +39,8 @@ pub(crate) fn write_sink_error(out: &mut Vec<u8>, actor: &Actor) -> Result<(), A
     out.extend_from_slice(b"; it is stopped until it is opened again")
 }
 
-/// Appends that the maximum number of answers is already counted, and which node sent one more.
+/// Appends the statement that the agent has already counted the maximum number of answers, and the name of the node
+/// that sent another answer.
 fn write_responders(
     out: &mut Vec<u8>,
     context: &TurnContext,
@@ -59,8 +61,8 @@ fn write_responders(
     }
 }
 
-/// The length of the packet that the agent would fire for this event, in bytes. Returns `None` if the event clock can't
-/// be read as a time.
+/// Returns the length in bytes of the packet that the agent would send if it fired this event. Returns `None` if the
+/// value of the event clock can't be converted to a valid time.
 fn fired_len(actor: &Actor, name: &[u8], payload: &[u8], coalesce: bool) -> Option<u64> {
     let time = Time::new(actor.agent.event_time().min(u64::MAX - 1))?;
     let event = UserEvent {
@@ -72,7 +74,7 @@ fn fired_len(actor: &Actor, name: &[u8], payload: &[u8], coalesce: bool) -> Opti
     Some(user_event_len(&event).min(u64::MAX as u128) as u64)
 }
 
-/// Appends why an event is too large to be fired.
+/// Appends an explanation of why an event is too large to be fired.
 fn write_large_event(
     out: &mut Vec<u8>,
     actor: &Actor,
@@ -89,7 +91,8 @@ fn write_large_event(
     out.extend_from_slice(b" may be fired")
 }
 
-/// Appends why an event or a query is too large to be fired, or a response too large to be sent.
+/// Appends an explanation of why an event or a query is too large to be fired, or why a response is too large to be
+/// sent.
 fn write_too_large(out: &mut Vec<u8>, actor: &Actor) -> Result<(), AllocError> {
     let config = actor.agent.config();
     match actor.act {
@@ -120,7 +123,7 @@ fn write_too_large(out: &mut Vec<u8>, actor: &Actor) -> Result<(), AllocError> {
     }
 }
 
-/// Appends that the action names a packet that wasn't sent, with its number, and how many were sent.
+/// Appends the statement that packet number `number` doesn't exist, together with the number of packets that were sent.
 fn write_no_message(
     out: &mut Vec<u8>,
     context: &TurnContext,
@@ -131,7 +134,7 @@ fn write_no_message(
     write_template(out, words, &[Part::Number(number), sent])
 }
 
-/// Appends that the packet can't be merged, and what it is.
+/// Appends the statement that only a whole state can be merged, and names the kind of message that the packet contains.
 fn write_not_push_pull(out: &mut Vec<u8>, context: &TurnContext) -> Result<(), AllocError> {
     let kind: &[u8] = match message_of(context) {
         Some(Message::UserEvent(_)) => b"a user event",
@@ -143,7 +146,7 @@ fn write_not_push_pull(out: &mut Vec<u8>, context: &TurnContext) -> Result<(), A
     write_template(out, words, &[Part::Text(kind)])
 }
 
-/// Appends why an agent refuses an action.
+/// Appends an explanation of why an agent refuses an action.
 pub(crate) fn write_refusal(
     out: &mut Vec<u8>,
     context: &TurnContext,

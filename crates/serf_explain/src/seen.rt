@@ -13,7 +13,7 @@ ghost use Rattle.serf_explain.specs.Recorded.{delivered_as, event_as};
 ghost use Rattle.serf_explain.specs.Seen.{event_delivered, event_read};
 
 use crate::deliveries::Event;
-use crate::left::{Takes, first_words, write_left};
+use crate::left::{Takes, first_words, write_ignored_detail};
 use crate::quoted::{say, write_because, write_event};
 use crate::reasons::{USUAL_BYTES, write_lone};
 use crate::turn_context::TurnContext;
@@ -31,7 +31,7 @@ pub(crate) struct Delivered<'a> {
     pub(crate) event: Event<'a>,
 }
 
-/// Returns the event in `message`, if it is a user event.
+/// Returns the event if `message` is a user event, and `None` otherwise.
 fn event_read<'a>(message: &Message<'a>) -> Option<Event<'a>>
     ensures { option_map event_as result ≡ event_read (Ok (message_of message.now)) }
 {
@@ -44,7 +44,7 @@ fn event_read<'a>(message: &Message<'a>) -> Option<Event<'a>>
     }
 }
 
-/// Returns the event in `packet`, if it contains a user event.
+/// Returns the user event in `packet`, or `None` if the packet doesn't contain a user event.
 fn event_in(packet: &[u8]) -> Option<Event<'_>>
     ensures { option_map event_as result ≡ event_read (decoded packet.now) }
 {
@@ -54,7 +54,7 @@ fn event_in(packet: &[u8]) -> Option<Event<'_>>
     }
 }
 
-/// Returns the event that an action delivers, if it delivers one.
+/// Returns the event that the action of this turn delivers, or `None` if the action delivers no event.
 fn seen_event<'a>(context: &TurnContext<'a>) -> Option<Delivered<'a>>
     ensures { option_map delivered_as result
         ≡ event_delivered context.now.world.now.sent context.now.action.now }
@@ -70,8 +70,8 @@ fn seen_event<'a>(context: &TurnContext<'a>) -> Option<Delivered<'a>>
     Some(Delivered { to: *agent, event })
 }
 
-/// Appends that action number `handed` handed `event` to the agent `name`. With `None`, it appends that the agent was
-/// opened on a text with the event's line.
+/// Appends the statement that action number `handed` handed `event` to the agent called `name`. If `handed` is `None`,
+/// the statement is instead that the agent was opened on a text that contains the event's line.
 #[tactic(auto, unfolding(crate::specs::Deliveries::handed_words, crate::specs::Seen::tailed_words))]
 pub(crate) fn write_handed(
     out: &mut Vec<u8>,
@@ -96,7 +96,7 @@ pub(crate) fn write_handed(
     }
 }
 
-/// Returns the name of agent number `agent`, or an empty name if there is no such agent.
+/// Returns the name of agent number `agent`, or an empty name if no agent has this number.
 fn name_of<'a>(context: &TurnContext<'a>, agent: u64) -> &'a [u8]
     ensures { result.now ≡ name_at context.now.world.now agent }
 {
@@ -106,7 +106,8 @@ fn name_of<'a>(context: &TurnContext<'a>, agent: u64) -> &'a [u8]
     }
 }
 
-/// Appends which action handed the delivered event to its agent before, or that the agent was opened on a text with the
+/// Appends the statement that an earlier action handed the delivered event to its agent, with the number of that
+/// action. If no earlier action did so, the statement is instead that the agent was opened on a text that contains the
 /// event's line.
 fn write_seen(out: &mut Vec<u8>, context: &TurnContext, of: &Delivered) -> Result<(), AllocError>
     ensures { OnOk result (GrowsBy (λ text. NamesSeen
@@ -118,8 +119,8 @@ fn write_seen(out: &mut Vec<u8>, context: &TurnContext, of: &Delivered) -> Resul
     write_handed(out, name_of(context, of.to), &of.event, handed)
 }
 
-/// Appends an explanation of `reason`, for which `agent` ignores a delivered event because of its minimum, its clock or
-/// its limits.
+/// Appends an explanation of why `agent` ignores a delivered event: the cause, `reason`, is the agent's minimum, its
+/// clock or one of its limits.
 fn write_left_event(
     out: &mut Vec<u8>,
     context: &TurnContext,
@@ -137,11 +138,11 @@ fn write_left_event(
     write_event(out, event.time, event.name, event.payload)?;
     out.extend_from_slice(b": ")?;
     out.extend_from_slice(first_words(reason))?;
-    write_left(out, &takes, b"event", event.time, event.bytes(), reason)
+    write_ignored_detail(out, &takes, b"event", event.time, event.bytes(), reason)
 }
 
-/// Appends an explanation of `reason`, for which a delivered event is ignored: an action handed it out before, or the
-/// agent's limits don't allow it.
+/// Appends an explanation of `reason`, the reason why a delivered event is ignored. Either the agent has already seen
+/// the event, or the agent's limits exclude the event.
 #[tactic(auto, using(crate::proofs::LeftLaws::ignored_seen, crate::proofs::LeftLaws::ignored_left, crate::proofs::LeftLaws::ignored_nobody))]
 fn write_ignored_event(
     out: &mut Vec<u8>,
@@ -161,7 +162,7 @@ fn write_ignored_event(
     }
 }
 
-/// Appends the line that explains `reason`, for which a delivered event is ignored.
+/// Appends the line that explains `reason`, the reason why a delivered event is ignored.
 fn write_delivered(
     alloc: Global,
     out: &mut Vec<u8>,
@@ -178,8 +179,8 @@ fn write_delivered(
     write_because(out, context.number, &text)
 }
 
-/// Appends the line that explains `reason`, for which the agent ignores what the action delivered: an event, a query,
-/// or an answer to a query.
+/// Appends the line that explains `reason`, the reason why the agent ignores the delivered message (an event, a query,
+/// or an answer to a query).
 pub(crate) fn write_delivery_ignored(
     alloc: Global,
     out: &mut Vec<u8>,

@@ -1,4 +1,5 @@
-//! Describes an action that was done, with its line of the trace and with what its reasons may refer to.
+//! Describes an action that was carried out: its line in the trace, and the facts to which the action's reasons may
+//! refer.
 
 ghost use Rattle.std.specs.Prelude.{◌≡◌};
 ghost use Rattle.std.specs.Option.{option_map};
@@ -15,7 +16,8 @@ use serf_text::Part;
 use serf_wire::{Bytes, Message, decode};
 use serf_world::World;
 
-/// A turn to be explained: an action and its line, the cluster after it, and the history of the actions before it.
+/// A turn that is to be explained: an action and its line in the trace, the cluster after the action, and the history
+/// of the earlier actions.
 #[derive(Clone, Copy)]
 pub(crate) struct TurnContext<'a> {
     /// The action's number, counted from 1.
@@ -24,20 +26,20 @@ pub(crate) struct TurnContext<'a> {
     pub(crate) past: &'a History,
     pub(crate) action: &'a Action,
     pub(crate) line: &'a Line,
-    /// The minimum for events after a merge that raises it, or `None` for any other action.
+    /// The agent's new minimum for events if the action is a merge that raises this minimum, and `None` otherwise.
     pub(crate) raised: Option<u64>,
-    /// A line for each event of a state that is merged, with the verdict that the event gets if the disk works. It is
-    /// empty for any other action.
+    /// If the action merges a state, one line for each event in that state, with the verdict that the event gets if the
+    /// disk works. For any other action, `carried` is empty.
     pub(crate) carried: &'a [u8],
 }
 
-/// Returns the name of `agent`, which is shown between quotes.
+/// Returns the template part that shows the name of `agent` in quotes.
 pub(crate) fn named(agent: &Agent<MemorySink>) -> Part<'_> {
     Part::Quoted(agent.config().name.as_slice())
 }
 
-/// Returns the message in the packet that `action` passes to its agent, if there is one. `sent` has the packets that
-/// were sent.
+/// Returns the message in the packet that `action` passes to its agent, or `None` if there is no such message. The list
+/// `sent` contains the packets that were sent.
 pub(crate) fn message_given<'a>(action: &Action, sent: &'a [Bytes]) -> Option<Message<'a>>
     ensures { option_map message_of result ≡ message_given (packet_given sent.now action.now) }
 {
@@ -47,7 +49,8 @@ pub(crate) fn message_given<'a>(action: &Action, sent: &'a [Bytes]) -> Option<Me
     }
 }
 
-/// Returns the message in the packet that the action of this turn passes to its agent, if there is one.
+/// Returns the message in the packet that the action of this turn passes to its agent, or `None` if there is no such
+/// message.
 pub(crate) fn message_of<'a>(context: &TurnContext<'a>) -> Option<Message<'a>>
     ensures { option_map message_of result ≡ message_given
         (packet_given context.now.world.now.sent context.now.action.now) }
@@ -55,7 +58,8 @@ pub(crate) fn message_of<'a>(context: &TurnContext<'a>) -> Option<Message<'a>>
     message_given(context.action, context.world.sent())
 }
 
-/// Returns the length in bytes of the packet that the action of this turn passes to its agent, or 0 if there is none.
+/// Returns the length in bytes of the packet that the action of this turn passes to its agent, or 0 if there is no such
+/// packet.
 pub(crate) fn packet_len(context: &TurnContext) -> u64 {
     match context.action.given(context.world.sent()) {
         Some(bytes) => bytes.len() as u64,
@@ -63,7 +67,7 @@ pub(crate) fn packet_len(context: &TurnContext) -> u64 {
     }
 }
 
-/// The agent that acts, agent number `number`: what it does, its state after that, and its marks before it.
+/// The agent that acts: its number, the act, the agent's state after the act, and the agent's marks before the act.
 #[derive(Clone, Copy)]
 pub(crate) struct Actor<'a> {
     pub(crate) number: u64,
@@ -72,7 +76,7 @@ pub(crate) struct Actor<'a> {
     pub(crate) before: Marks,
 }
 
-/// Returns agent number `number`, which does `act`, or `None` if no agent has this number.
+/// Returns agent number `number` as the actor that performs `act`, or `None` if no agent has this number.
 pub(crate) fn actor_at<'a>(
     context: &TurnContext<'a>,
     number: u64,
@@ -86,7 +90,7 @@ pub(crate) fn actor_at<'a>(
     })
 }
 
-/// Returns the moment at which `act` is done, in nanoseconds, or 0 if it names no moment.
+/// Returns the moment, in nanoseconds, at which `act` is performed, or 0 if the act doesn't name a moment.
 pub(crate) fn moment_of(act: &Act) -> u64 {
     match act {
         Act::Deliver { now, .. } | Act::Respond { now, .. } | Act::Close { now } => *now,
@@ -94,8 +98,8 @@ pub(crate) fn moment_of(act: &Act) -> u64 {
     }
 }
 
-/// Returns the number of the packet that `act` passes to its agent, or of the query that it answers, or 0 if it names
-/// neither.
+/// Returns the number of the packet that `act` passes to its agent, or the number of the query to which `act` responds.
+/// If the act names neither a packet nor a query, the function returns 0.
 pub(crate) fn number_in(act: &Act) -> u64 {
     match act {
         Act::Deliver { packet, .. } | Act::Merge { packet, .. } => *packet,

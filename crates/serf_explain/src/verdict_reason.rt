@@ -1,4 +1,4 @@
-//! Finds the verdict on each event of a merge, before the merge is done.
+//! Finds the verdict on each event in a merge before the merge is carried out.
 
 ghost use Rattle.std.specs.Prelude.{◌≡◌, ◌<◌, ◌≤◌, ◌-◌, ◌++◌, ◌∷◌, ◌&&◌, [], List, length, nat_le, map, if◌then◌else◌, IfOk, OnOk, None, Some};
 ghost use Rattle.serf_lamport.specs.Clock.{observed};
@@ -25,8 +25,8 @@ use serf_window::{EventWindow, Verdict, Window, slot_laws};
 use serf_wire::{BorrowedEventSlots, BorrowedSlot, EventView};
 use std::alloc::{AllocError, Global};
 
-/// What is known of an agent in a merge that is being judged: its event clock, its minimum for events, and the events
-/// that have entered it in this merge so far.
+/// The judge of a merge, which knows the agent's event clock, the agent's minimum for events, and the events that the
+/// agent has accepted in the merge so far.
 #[derive(Drop)]
 pub(crate) struct Judge {
     pub(crate) clock: u64,
@@ -34,7 +34,7 @@ pub(crate) struct Judge {
     entered: EventWindow,
 }
 
-/// Returns how many events of `time` the `slots` of a buffer hold.
+/// Returns the number of events with the time `time` that the slots of a buffer contain.
 fn count_of(slots: BorrowedEventSlots, time: u64) -> usize
     ensures { result ≡ count_in (map slot_view (slots_borrowed slots.entry)) time }
 {
@@ -54,15 +54,16 @@ fn count_of(slots: BorrowedEventSlots, time: u64) -> usize
     }
 }
 
-/// Returns the minimum that a merged state requires. In a join that ignores old events, it is `clock`, the state's
-/// event clock. Otherwise it is 0.
+/// Returns the minimum that a merged state requires. In a join that ignores old events, the minimum is `clock`, the
+/// event clock of the state. In any other merge, the minimum is 0.
 fn lowest(is_join: bool, ignore_old: bool, clock: u64) -> u64
     ensures { result ≡ if is_join && ignore_old then clock else 0 }
 {
     if is_join && ignore_old { clock } else { 0 }
 }
 
-/// Converts `time` to a valid time. This succeeds if it is below `clock`, because only 2^64 - 1 is not a valid time.
+/// Converts `time` to a valid time. The conversion succeeds if `time` is below `clock`, because 2^64 - 1 is the only
+/// number that isn't a valid time.
 fn time_below(time: u64, clock: u64) -> Option<Time>
     ensures { time < clock → result ≡ Some time }
 {
@@ -72,7 +73,7 @@ fn time_below(time: u64, clock: u64) -> Option<Time>
     }
 }
 
-/// Returns whether `verdict` says that the event entered before.
+/// Returns whether `verdict` means that the agent has seen the event before.
 fn is_seen(verdict: Verdict) -> bool
     ensures { result ≡ is_seen verdict }
 {
@@ -83,7 +84,8 @@ fn is_seen(verdict: Verdict) -> bool
 }
 
 impl Judge {
-    /// Makes the judge of a merge into `agent`, before its first event. `clock` is the event clock of the state.
+    /// Makes the judge of a merge into `agent`, as it is before the first event of the merge. `clock` is the event
+    /// clock of the state that is merged.
     pub(crate) fn new(
         alloc: Global,
         agent: &Agent<MemorySink>,
@@ -106,8 +108,8 @@ impl Judge {
         })
     }
 
-    /// Returns the minimum for events after the merge, if it is above the minimum of `agent`, which is still in the
-    /// state before the merge.
+    /// Returns the new minimum for events if the merge raises the minimum, and `None` otherwise. `agent` is the agent
+    /// as it was before the merge.
     pub(crate) fn raised(&self, agent: &Agent<MemorySink>) -> Option<u64>
         ensures { (i j : IdealAgent) → agent.now.concrete ≡ view_of i → IsJudging i j self.now
             → result ≡ raised_min i j }
@@ -120,8 +122,8 @@ impl Judge {
         }
     }
 
-    /// Returns whether as many events of `time` have entered, before the merge and in it together, as the agent accepts
-    /// with the same time.
+    /// Returns whether the agent has accepted the maximum number of events with the time `time`. The maximum applies to
+    /// the events from before the merge and the events in the merge together.
     fn is_full(&self, agent: &Agent<MemorySink>, time: u64) -> bool
         ensures { result ≡ nat_le
             (agent.now.concrete.config.per_time - count_in agent.now.concrete.events.slots time)
@@ -132,9 +134,10 @@ impl Judge {
         left <= count_of(self.entered.slots(), time) as u64
     }
 
-    /// Combines three things into the verdict on an event of `time`: `before`, the verdict against what entered before
-    /// the merge; `entered`, the verdict against what entered in the merge; and whether both together have as many
-    /// events of its time as the agent accepts.
+    /// Combines three facts into the verdict on an event with the time `time`. `before` is the verdict that results
+    /// from comparing the event with the events that were accepted before the merge. `entered` is the verdict that
+    /// results from comparing the event with the events that were accepted in the merge. The third fact is whether the
+    /// agent has already accepted the maximum number of events with this time.
     fn both(
         &self,
         agent: &Agent<MemorySink>,
@@ -167,7 +170,7 @@ impl Judge {
         }
     }
 
-    /// Returns why the next event of the merge is ignored, or `None` if it is new.
+    /// Returns the reason why the next event in the merge is ignored, or `None` if the event is new.
     fn reason(&self, agent: &Agent<MemorySink>, time: Time, event: &EventView) -> Option<Reason>
         ensures reason { (i j : IdealAgent) → IsSound i → agent.now.concrete ≡ view_of i
             → IsJudging i j self.now → result ≡ admission j time (event_of_view event.now) }
@@ -175,7 +178,7 @@ impl Judge {
         ensures not_full { result ≡ None
             → count_in self.now.entered.slots time < self.now.entered.per_time }
     {
-        // for the prover: what the slots of a window hold
+        // The prover needs the laws about the slots of a window.
         slot_laws();
         let texts = event.name.len().saturating_add(event.payload.len());
         if texts > MAX_TEXT_BYTES {
@@ -187,7 +190,7 @@ impl Judge {
         self.both(agent, time.get(), before, entered)
     }
 
-    /// Judges the next event of the merge, and lets it enter if it is new.
+    /// Judges the next event in the merge, and records the event as accepted if it is new.
     pub(crate) fn judge(
         &mut self,
         alloc: Global,
@@ -201,7 +204,7 @@ impl Judge {
             × IsJudging i (after_event j (record { time = time; key = event_of_view event.now }))
             self.new) }
     {
-        // for the prover: what the slots of a window hold
+        // The prover needs the laws about the slots of a window.
         slot_laws();
         match self.reason(agent, time, event) {
             Some(reason) => {
@@ -215,13 +218,13 @@ impl Judge {
         }
     }
 
-    /// Returns whether `event`, which was seen, entered in the merge and not before it.
+    /// Returns whether the agent accepted `event`, which it has seen, during the merge rather than before the merge.
     pub(crate) fn took(&self, event: &Event) -> bool
         ensures { (i j : IdealAgent) → IsJudging i (after_event j (event_as event.now)) self.now
             → admission j event.now.time (event_as event.now).key ≡ Some Reason.Seen
             → result ≡ entered_since (length i.events.history) j (event_as event.now) }
     {
-        // for the prover: what the slots of a window hold
+        // The prover needs the laws about the slots of a window.
         slot_laws();
         match time_below(event.time, self.clock) {
             Some(time) => {
@@ -235,7 +238,7 @@ impl Judge {
         }
     }
 
-    /// Makes the clock later than `time`.
+    /// Raises the clock above `time` unless the clock is already higher.
     fn observe(&mut self, time: Time)
         ensures clock { self.new.clock ≡ observed self.old.clock time }
         ensures minimum { self.new.minimum ≡ self.old.minimum }
@@ -244,7 +247,7 @@ impl Judge {
         self.clock = self.clock.max(time.get() + 1);
     }
 
-    /// Lets a new event enter, and observes its time.
+    /// Records a new event as accepted, and raises the clock above the event's time.
     fn accept(&mut self, alloc: Global, time: Time, event: &EventView) -> Result<(), AllocError>
         requires not_later { time_in self.old.entered.slots time ≤ time }
         requires not_full { count_in self.old.entered.slots time < self.old.entered.per_time }

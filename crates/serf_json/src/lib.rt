@@ -1,7 +1,7 @@
-//! JSON: objects, one a line, with a version and a kind first.
+//! Writes JSON objects, each on its own line, with a version and a kind as the first members.
 //!
-//! An object's bytes are printable ASCII and nothing else, whatever its texts contain. They can be copied into an HTML
-//! page: `<`, `>` and `&` are escaped.
+//! The bytes of an object are printable ASCII and nothing else, whatever texts the object contains. They can be
+//! copied into an HTML page, because `<`, `>` and `&` are escaped.
 #![tactic(auto)]
 
 mod member;

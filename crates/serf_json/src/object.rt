@@ -1,4 +1,4 @@
-//! Appends objects, one a line.
+//! Appends objects, each on its own line.
 
 ghost use Rattle.std.specs.Prelude.{◌≡◌, ◌++◌, OnOk};
 ghost use Rattle.std.specs.List.{flat_map};
@@ -9,7 +9,7 @@ use crate::member::Member;
 use crate::text::{flag_text, is_ascii, write_hex_text, write_number, write_numbers, write_text};
 use std::alloc::AllocError;
 
-/// Appends a comma, and `name` in quotes before a colon.
+/// Appends a comma, `name` in quotes, and a colon.
 fn write_name(out: &mut Vec<u8>, name: &[u8]) -> Result<(), AllocError>
     ensures { OnOk result (out.new.items ≡ out.old.items ++ name_start name.now) }
 {
@@ -18,7 +18,7 @@ fn write_name(out: &mut Vec<u8>, name: &[u8]) -> Result<(), AllocError>
     out.extend_from_slice(b"\":")
 }
 
-/// Appends a comma, and `name` followed by `_hex`, in quotes before a colon.
+/// Appends a comma, `name` followed by `_hex` in quotes, and a colon.
 fn write_hex_name(out: &mut Vec<u8>, name: &[u8]) -> Result<(), AllocError>
     ensures { OnOk result (out.new.items ≡ out.old.items ++ hex_name name.now) }
 {
@@ -45,7 +45,7 @@ fn write_hex_member(out: &mut Vec<u8>, name: &[u8], bytes: &[u8]) -> Result<(), 
     write_hex_text(out, bytes)
 }
 
-/// Appends the two members for `bytes`: the text only if all bytes are ASCII.
+/// Appends the members for `bytes`: the text, only if all bytes are ASCII, and then the hex.
 fn write_bytes_member(out: &mut Vec<u8>, name: &[u8], bytes: &[u8]) -> Result<(), AllocError>
     ensures { OnOk result (out.new.items ≡ out.old.items ++ bytes_member name.now bytes.now) }
 {
@@ -83,7 +83,7 @@ fn write_member(out: &mut Vec<u8>, member: Member) -> Result<(), AllocError>
     }
 }
 
-/// Appends these members.
+/// Appends each of `members`.
 #[tactic(auto, unfolding(crate::specs::Object::members_text))]
 fn write_members(out: &mut Vec<u8>, members: &[Member]) -> Result<(), AllocError>
     ensures { OnOk result (out.new.items ≡ out.old.items ++ members_text members.now) }
@@ -94,7 +94,7 @@ fn write_members(out: &mut Vec<u8>, members: &[Member]) -> Result<(), AllocError
     Ok(())
 }
 
-/// Appends the beginning of an object: the version, and the kind `kind`.
+/// Appends the beginning of an object, which contains the version and the kind `kind`.
 #[tactic(auto, unfolding(crate::specs::Object::head_text))]
 fn write_head(out: &mut Vec<u8>, kind: &[u8]) -> Result<(), AllocError>
     ensures { OnOk result (out.new.items ≡ out.old.items ++ head_text kind.now) }
@@ -111,8 +111,8 @@ fn write_end(out: &mut Vec<u8>) -> Result<(), AllocError>
     out.extend_from_slice(b"}\n")
 }
 
-/// Appends a line with an object: the version, the kind `kind`, and these members. After an `AllocError`, which means
-/// that memory ran out, `out` may have a prefix of the line.
+/// Appends a line with an object, which contains the version, the kind `kind`, and these members. If memory runs out,
+/// the call returns an `AllocError`, and `out` may then end in a part of the line.
 pub fn write_object(out: &mut Vec<u8>, kind: &[u8], members: &[Member]) -> Result<(), AllocError>
     ensures { OnOk result (out.new.items ≡ out.old.items
         ++ object_text kind.now (members_text members.now)) }

@@ -16,14 +16,14 @@ pub(crate) fn write_number(out: &mut Vec<u8>, n: u64) -> Result<(), AllocError>
     out.extend_from_slice(buffer.format(n).as_bytes())
 }
 
-/// The word for `flag`.
+/// Returns the word for `flag`.
 pub(crate) fn flag_text(flag: bool) -> &'static [u8]
     ensures { result.now ≡ flag_text flag }
 {
     if flag { b"true" } else { b"false" }
 }
 
-/// The ASCII byte of the hex digit `digit`, in lower case.
+/// Returns the ASCII byte of the hex digit `digit`, in lower case.
 fn hex_digit(digit: u8) -> u8
     requires { digit < 16 }
     ensures { result ≡ hex_digit_of digit }
@@ -31,15 +31,15 @@ fn hex_digit(digit: u8) -> u8
     if digit < 10 { 48 + digit } else { 87 + digit }
 }
 
-/// Whether a byte of a text is escaped by its number: it isn't printable ASCII, or it can begin or end something in an
-/// HTML page.
+/// Returns whether a byte of a text is escaped as a number. This is so if it isn't printable ASCII, or if it can
+/// begin or end a tag or begin an entity in an HTML page.
 fn is_escaped(byte: u8) -> bool
     ensures { result ≡ is_escaped byte }
 {
     byte < 32 || 126 < byte || byte == b'<' || byte == b'>' || byte == b'&'
 }
 
-/// Appends `byte` as it is written in a text. A quote or a backslash gets a backslash in front, and a byte that is
+/// Appends `byte` as it is written in a text. A quote or a backslash gets a backslash in front of it. A byte that is
 /// escaped is written as `\u00` with two hex digits.
 fn write_byte(out: &mut Vec<u8>, byte: u8) -> Result<(), AllocError>
     ensures { OnOk result (out.new.items ≡ out.old.items ++ json_byte byte) }
@@ -74,7 +74,7 @@ fn write_hex(out: &mut Vec<u8>, bytes: &[u8]) -> Result<(), AllocError>
     out.resize(from.saturating_add(bytes.len().saturating_mul(2)), 0)?;
     match hex::encode_to_slice(bytes, &mut out[from..]) {
         Ok(()) => Ok(()),
-        // (the hex needs two bytes for each of `bytes`, and there are exactly as many after `from`)
+        // (the hex needs two bytes for each of `bytes`, and `out` has exactly as many after `from`)
         Err(_) => unreachable!(),
     }
 }
@@ -88,7 +88,7 @@ pub(crate) fn write_hex_text(out: &mut Vec<u8>, bytes: &[u8]) -> Result<(), Allo
     out.extend_from_slice(b"\"")
 }
 
-/// Whether all of `bytes` are ASCII.
+/// Returns whether all of `bytes` are ASCII.
 pub(crate) fn is_ascii(bytes: &[u8]) -> bool
     ensures { result ≡ is_ascii bytes.now }
 {

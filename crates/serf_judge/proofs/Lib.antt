@@ -7,6 +7,7 @@ pub mod LogLaws
 pub mod MissedLaws
 pub mod Names
 pub mod RecordedLaws
+pub mod RunLaws
 pub mod OnceLaws
 pub mod PairLaws
 pub mod PlaceLaws

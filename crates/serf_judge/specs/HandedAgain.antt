@@ -74,14 +74,14 @@ is_new_event text i e =
 abbrev pub of_time : ℕ → EntryFilter
 of_time time = record { from = time; below = time + 1; longest = max_text_bytes }
 
-abbrev pub id_of : Option ℕ → ℕ
-id_of id = if nat_lt (unwrap_or id 0) (2 ^ 32) then unwrap_or id 0 else 0
+abbrev pub query_id_or_zero : Option ℕ → ℕ
+query_id_or_zero id = if nat_lt (unwrap_or id 0) (2 ^ 32) then unwrap_or id 0 else 0
 
 abbrev pub is_new_query : List ℕ → IdealAgent → QueryEntry → Bool
 is_new_query text i q =
     nat_lt q.time max_clock
     && ((length (queries_in (of_time q.time) text) == 0)
-    && is_none (query_admission i q.time (id_of q.id)))
+    && is_none (query_admission i q.time (query_id_or_zero q.id)))
 
 -- Both
 

@@ -15,6 +15,7 @@ joined_logs x y = record {
   fired = x.fired ++ moved_on x.lines y.fired;
   events = x.events ++ moved_on x.lines y.events;
   queries = x.queries ++ moved_on x.lines y.queries;
+  runs = x.runs ++ moved_on x.lines y.runs;
   bad = x.bad ++ moved_on x.lines y.bad;
   dates = x.dates ++ moved_on x.lines y.dates;
   lines = min (x.lines + y.lines) (2 ^ 64 - 1);

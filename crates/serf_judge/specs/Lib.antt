@@ -11,6 +11,7 @@ pub mod Missed
 pub mod Nodes
 pub mod Recorded
 pub mod Pairs
+pub mod Runs
 pub mod Said
 pub mod SerfClocks
 pub mod Stands

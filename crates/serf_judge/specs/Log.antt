@@ -7,12 +7,15 @@ use Rattle.serf_text.specs.Gives.{◌>>=◌}
 use Rattle.serf_text.specs.Words.{number_in, number_of, word_at}
 use Rattle.serf_judge.specs.Identity.{Identity}
 
--- what a line says: an event was fired or handed out, a query was handed out, or nothing that is judged
+-- what a line says: an event was fired or handed out, a query was handed out, an event was handed out whose handler
+-- began, the handler of an event ended with a status, or nothing that is judged
 pub data LogRecord : Type 0 where
   nothing : LogRecord
   fired : Identity → LogRecord
   event : Identity → LogRecord
   query : Identity → LogRecord
+  begun : Identity → LogRecord
+  ended : Identity → List ℕ → LogRecord
 
 -- the event of four words, the first of which is at this place: the node, the time, the name and the payload
 unfoldable pub event_at : ℕ → List (List ℕ) → Result Identity Cause
@@ -57,5 +60,7 @@ log_record_of words =
     else if bytes_eq (word_at 1 words) (codes "fired") then of_count 5 words (event_line 2 words (λ e. fired e))
     else if bytes_eq (word_at 1 words) (codes "query") then of_count 4 words (query_line 2 3 4 words)
     else if bytes_eq (word_at 1 words) (codes "restarted") then of_count 2 words (Ok nothing)
+    else if bytes_eq (word_at 1 words) (codes "begun") then of_count 5 words (event_line 2 words (λ e. begun e))
+    else if bytes_eq (word_at 1 words) (codes "ended") then of_count 6 words (event_line 2 words (λ e. ended e (word_at 6 words)))
     else if is_some (number_of (word_at 1 words)) then trace_line words
     else Err UnknownWord

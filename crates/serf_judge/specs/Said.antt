@@ -1,5 +1,5 @@
 -- What the code holds of a line, and of a log.
-use Rattle.std.specs.Prelude.{◌^◌, ◌-◌, ◌≡◌, ℕ, ◌+◌, ◌++◌, ◌==◌, Bool, length, slice_index, min, take, drop, if◌then◌else◌, List, [], ◌∷◌, map, Result, Ok, Err}
+use Rattle.std.specs.Prelude.{◌^◌, ◌-◌, ◌≡◌, ℕ, ◌+◌, ◌++◌, ◌==◌, Bool, length, slice_index, min, take, drop, if◌then◌else◌, List, [], ◌∷◌, map, None, Some, Result, Ok, Err}
 use Rattle.std.specs.List.{fold}
 use Rattle.std.specs.Str.{bytes_eq}
 use Rattle.serf_text.specs.declared.cause.Cause.{Cause}
@@ -13,7 +13,8 @@ use Rattle.serf_judge.specs.declared.log_record.LogRecord.TheVariants as held
 use Rattle.serf_judge.specs.declared.log.Log.{Log}
 use Rattle.serf_judge.specs.Dated.{after_date, date_text}
 use Rattle.serf_judge.specs.Identity.{Identity, event_identity, event_seen, query_identity, query_seen}
-use Rattle.serf_judge.specs.Log.{LogRecord, nothing, fired, event, query, log_record_of}
+use Rattle.serf_judge.specs.Log.{LogRecord, nothing, fired, event, query, begun, ended, log_record_of}
+use Rattle.serf_judge.specs.Runs.{Run, run_seen}
 
 -- the result, through this view, is what the definition says, unless memory ran out
 abbrev pub Says : {X Y : Type 0} → (X → Y) → Result X (LineError Cause) → Result Y Cause → Type 0
@@ -48,12 +49,13 @@ line_said line = if is_comment line then Ok nothing else words_said (after_date 
 abbrev pub line_date : List ℕ → List ℕ
 line_date line = if is_comment line then [] else date_text (words_of line)
 
--- Events and queries, what is wrong with bad lines, and the dates that lines have, each with the number of its line;
--- and how many lines there are, which stops at 2^64 - 1.
+-- Events and queries, what became of handlers, what is wrong with bad lines, and the dates that lines have, each with
+-- the number of its line; and how many lines there are, which stops at 2^64 - 1.
 pub record LogView : Type 0 where
   pub fired : List (ℕ × Identity)
   pub events : List (ℕ × Identity)
   pub queries : List (ℕ × Identity)
+  pub runs : List (ℕ × Run)
   pub bad : List (ℕ × Cause)
   pub dates : List (ℕ × List ℕ)
   pub lines : ℕ
@@ -63,6 +65,8 @@ with_log_record log n nothing = log
 with_log_record log n (fired e) = record log { fired = log.fired ++ (n, e) ∷ [] }
 with_log_record log n (event e) = record log { events = log.events ++ (n, e) ∷ [] }
 with_log_record log n (query q) = record log { queries = log.queries ++ (n, q) ∷ [] }
+with_log_record log n (begun e) = record log { events = log.events ++ (n, e) ∷ []; runs = log.runs ++ (n, record { event = e; status = None }) ∷ [] }
+with_log_record log n (ended e status) = record log { runs = log.runs ++ (n, record { event = e; status = Some status }) ∷ [] }
 
 -- a bad line is kept, and says nothing else
 abbrev pub with_said : LogView → ℕ → Result LogRecord Cause → LogView
@@ -84,7 +88,7 @@ after_line log line = with_line (record log { lines = next_line log }) (next_lin
 
 -- what the lines of a log say, in order
 abbrev pub log_of : List (List ℕ) → LogView
-log_of lines = fold after_line (record { fired = []; events = []; queries = []; bad = []; dates = []; lines = 0 }) lines
+log_of lines = fold after_line (record { fired = []; events = []; queries = []; runs = []; bad = []; dates = []; lines = 0 }) lines
 
 -- nothing is written for a line, and no line is refused
 abbrev pub log_answer : List (List ℕ) → List ℕ → Result (List ℕ) Cause
@@ -97,7 +101,7 @@ abbrev pub date_seen : DatedLine → ℕ × List ℕ
 date_seen d = (d.line, d.date.items)
 
 abbrev pub log_view : Log → LogView
-log_view log = record { fired = map event_seen log.fired.items; events = map event_seen log.events.items; queries = map query_seen log.queries.items; bad = map bad_seen log.bad.items; dates = map date_seen log.dates.items; lines = log.lines }
+log_view log = record { fired = map event_seen log.fired.items; events = map event_seen log.events.items; queries = map query_seen log.queries.items; runs = map run_seen log.runs.items; bad = map bad_seen log.bad.items; dates = map date_seen log.dates.items; lines = log.lines }
 
 -- what the code holds of a line
 abbrev pub log_record_view : Held → LogRecord
@@ -105,6 +109,8 @@ log_record_view held.Nothing = nothing
 log_record_view (held.Fired e) = fired (event_identity e)
 log_record_view (held.Event e) = event (event_identity e)
 log_record_view (held.Query q) = query (query_identity q)
+log_record_view (held.Begun e) = begun (event_identity e)
+log_record_view (held.Ended e status) = ended (event_identity e) status.items
 
 -- its entry has the number of the line
 abbrev pub IsAt : ℕ → Held → Type 0
@@ -112,3 +118,5 @@ IsAt n held.Nothing = Unit {0}
 IsAt n (held.Fired e) = e.line ≡ n
 IsAt n (held.Event e) = e.line ≡ n
 IsAt n (held.Query q) = q.line ≡ n
+IsAt n (held.Begun e) = e.line ≡ n
+IsAt n (held.Ended e status) = e.line ≡ n

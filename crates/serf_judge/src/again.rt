@@ -1,4 +1,5 @@
-//! Finds the items of a list whose key appears there for the first time, or again. Keys are found by their hashes.
+//! Finds the items in a list whose keys appear for the first time, or the items whose keys appeared earlier. Keys are
+//! looked up by their hashes.
 
 ghost use Rattle.std.specs.Prelude.{◌≡◌, ◌++◌, ◌∷◌, [], IfOk, List, OnOk, map};
 ghost use Rattle.std.specs.HashSet.{contains};
@@ -12,8 +13,8 @@ use std::alloc::{AllocError, Global};
 use std::collections::HashSet;
 use std::hash::Hash;
 
-/// Records in `recorded` the key of `item`, `key`. Appends `item` to `found` if its key was recorded before and `again`
-/// is true, or if its key wasn't recorded before and `again` is false.
+/// Records `key`, which is the key of `item`, in `recorded`. If `again` is true, appends `item` to `found` only if the
+/// key was recorded before. If `again` is false, appends `item` to `found` only if the key is new.
 fn keep<K: Eq + Hash + Copy, T: Copy>(
     recorded: &mut HashSet<K>,
     found: &mut Vec<T>,
@@ -34,7 +35,7 @@ fn keep<K: Eq + Hash + Copy, T: Copy>(
     Ok(())
 }
 
-/// The keys among `keys` that aren't equal to an earlier one, in order.
+/// Returns each key in `keys` once, in the order in which the keys first appear.
 pub(crate) fn firsts<K: Eq + Hash + Copy>(alloc: Global, keys: &[K]) -> Result<Vec<K>, AllocError>
     ensures { IfOk result (λ found. found.items ≡ firsts_of K.eq keys.now) }
 {
@@ -46,7 +47,8 @@ pub(crate) fn firsts<K: Eq + Hash + Copy>(alloc: Global, keys: &[K]) -> Result<V
     Ok(found)
 }
 
-/// The entries among `entries` that hand a node what an earlier entry handed to it, in order.
+/// Returns, in order, the entries that hand a node an event or a query that an earlier entry already handed to the same
+/// node.
 pub(crate) fn repeats<'a, E: Delivered>(
     alloc: Global,
     entries: &'a [E],

@@ -1,12 +1,13 @@
-//! The date at the beginning of a line: a word that begins like `2026-`, and the next word if it begins like `16:`,
-//! which is a time of day (`clock` in the names here). The bytes of a word are counted from 0.
+//! Finds the date at the beginning of a line. The date is a word that begins like `2026-`. If the next word begins like
+//! `16:`, it is a time of day, and belongs to the date. The names in this file call a time of day a `clock`. The bytes
+//! of a word are counted from 0.
 
 ghost use Rattle.std.specs.Prelude.{◌≡◌, ◌++◌, IfOk, OnOk, map};
 ghost use Rattle.serf_judge.specs.Dated.{begins_as_clock, begins_as_date, after_clock, after_date, clock_text, date_text, has_byte, has_digit};
 
 use std::alloc::{AllocError, Global};
 
-/// Whether byte number `place` of `word` is a decimal digit.
+/// Returns whether byte number `place` of `word` is a decimal digit.
 fn is_digit_at(word: &[u8], place: usize) -> bool
     ensures { result ≡ has_digit place word.now }
 {
@@ -16,7 +17,7 @@ fn is_digit_at(word: &[u8], place: usize) -> bool
     }
 }
 
-/// Whether byte number `place` of `word` is `byte`.
+/// Returns whether byte number `place` of `word` is `byte`.
 fn is_byte_at(word: &[u8], place: usize, byte: u8) -> bool
     ensures { result ≡ has_byte byte place word.now }
 {
@@ -26,7 +27,7 @@ fn is_byte_at(word: &[u8], place: usize, byte: u8) -> bool
     }
 }
 
-/// Whether `word` begins like a date, with four digits and `-`.
+/// Returns whether `word` begins like a date, with four digits and `-`.
 fn is_date(word: &[u8]) -> bool
     ensures { result ≡ begins_as_date word.now }
 {
@@ -37,14 +38,14 @@ fn is_date(word: &[u8]) -> bool
         && is_byte_at(word, 4, b'-')
 }
 
-/// Whether `word` begins like a time of day, with two digits and `:`.
+/// Returns whether `word` begins like a time of day, with two digits and `:`.
 fn is_clock(word: &[u8]) -> bool
     ensures { result ≡ begins_as_clock word.now }
 {
     is_digit_at(word, 0) && is_digit_at(word, 1) && is_byte_at(word, 2, b':')
 }
 
-/// `words` without the first one if it is a time of day.
+/// Returns `words`, but leaves out the first word if that word is a time of day.
 fn cut_clock<'w, 'a>(words: &'w [&'a [u8]]) -> &'w [&'a [u8]]
     ensures { map (λ w. w.now) result.now ≡ after_clock (map (λ w. w.now) words.entry.now) }
 {
@@ -57,7 +58,7 @@ fn cut_clock<'w, 'a>(words: &'w [&'a [u8]]) -> &'w [&'a [u8]]
     words
 }
 
-/// `words` without the date at their beginning, if there is one, and without a time of day right after it.
+/// Returns `words`, but leaves out a date at the beginning and a time of day right after the date.
 pub(crate) fn cut_date<'w, 'a>(words: &'w [&'a [u8]]) -> &'w [&'a [u8]]
     ensures { map (λ w. w.now) result.now ≡ after_date (map (λ w. w.now) words.entry.now) }
 {
@@ -70,7 +71,7 @@ pub(crate) fn cut_date<'w, 'a>(words: &'w [&'a [u8]]) -> &'w [&'a [u8]]
     words
 }
 
-/// Appends a space and the first of `words` to `text` if this word is a time of day. Otherwise appends nothing.
+/// If the first word in `words` is a time of day, appends a space and the word to `text`. Otherwise, appends nothing.
 fn write_clock(text: &mut Vec<u8>, words: &[&[u8]]) -> Result<(), AllocError>
     ensures { OnOk result (text.new.items
         ≡ text.old.items ++ clock_text (map (λ w. w.now) words.now)) }
@@ -85,8 +86,8 @@ fn write_clock(text: &mut Vec<u8>, words: &[&[u8]]) -> Result<(), AllocError>
     text.extend_from_slice(first)
 }
 
-/// The date at the beginning of `words`, as it is written there, with a space before its time of day. Empty if there is
-/// no date.
+/// Returns the date at the beginning of `words`, as it is written in the log. If a time of day follows, the result also
+/// contains a space and the time of day. If `words` doesn't begin with a date, the result is empty.
 pub(crate) fn date_of(alloc: Global, words: &[&[u8]]) -> Result<Vec<u8>, AllocError>
     ensures { IfOk result (λ text. text.items ≡ date_text (map (λ w. w.now) words.now)) }
 {

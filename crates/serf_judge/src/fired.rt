@@ -1,5 +1,6 @@
-//! Whether each event that was handed out was fired before. This may be on an earlier line, or anywhere in another log if
-//! several logs were joined one after another, because their lines have no common order. Logs are counted from 0.
+//! Checks whether each event was fired before it was handed out. In a single log, the event has to be fired on an
+//! earlier line. If several logs were joined one after another, the event may also be fired on any line of another log,
+//! because the lines of different logs have no common order. Logs are counted from 0.
 
 ghost use Rattle.std.specs.Prelude.{◌≡◌, ◌++◌, ◌∷◌, ◌||◌, ℕ, [], IfOk, List, MatchOption, OnOk, nat_le, nat_lt, position};
 ghost use Rattle.std.specs.HashMap.{get};
@@ -11,7 +12,7 @@ use crate::entry::EventEntry;
 use std::alloc::{AllocError, Global};
 use std::collections::HashMap;
 
-/// An event's time, name and payload, which distinguish it from other events.
+/// The time, name and payload of an event, which together distinguish it from other events.
 #[derive(Clone, Copy, PartialEq, Eq, Hash)]
 pub(crate) struct ContentKey<'a> {
     pub(crate) time: u64,
@@ -19,7 +20,7 @@ pub(crate) struct ContentKey<'a> {
     pub(crate) payload: &'a [u8],
 }
 
-/// The time, the name and the payload of the event of `entry`.
+/// Returns the time, the name and the payload of the event in `entry`.
 pub(crate) fn content_key(entry: &EventEntry) -> ContentKey<'_>
     ensures { key_content result ≡ content_of entry.now }
 {
@@ -30,26 +31,26 @@ pub(crate) fn content_key(entry: &EventEntry) -> ContentKey<'_>
     }
 }
 
-/// The firings of one event, as far as later questions need them.
+/// Two numbers about an event's firings, which decide whether the event was fired before it was handed out.
 #[derive(Clone, Copy)]
 pub(crate) struct Firings {
-    /// The number of the first line that fires it, counted from 1.
+    /// The number of the first line on which the event was fired, counted from 1.
     first_line: u64,
-    /// The number of the last log with a line that fires it, counted from 0.
+    /// The number of the last log in which the event was fired, counted from 0.
     last_log: usize,
 }
 
-/// The index of the first of `starts` that is at least `line`; `None` if each of them is less. Because `starts` has,
-/// for each log but the first, how many lines come before it, this is the number of the log that contains the line,
-/// unless that is the last log.
+/// Returns the index of the first number in `starts` that is at least `line`, or `None` if all numbers are smaller. For
+/// each log except the first, `starts` contains the number of lines before that log. So the index is the number of the
+/// log that contains the line, and `None` means that the last log contains the line.
 fn next_start(starts: &[u64], line: u64) -> Option<usize>
     ensures { result ≡ position (λ s. nat_le line s) starts.now }
 {
     starts.iter().position(|start| line <= *start)
 }
 
-/// The number, counted from 0, of the log that contains line `line`. For each log but the first, `starts` has how many
-/// lines come before it.
+/// Returns the number, counted from 0, of the log that contains line `line`. For each log except the first, `starts`
+/// contains the number of lines before that log.
 fn log_of(starts: &[u64], line: u64) -> usize
     ensures { result ≡ log_at starts.now line }
 {
@@ -59,9 +60,9 @@ fn log_of(starts: &[u64], line: u64) -> usize
     }
 }
 
-/// The firings that `table` has for the event `key`, if it has any, together with one more on line `line`, in log
-/// `log`.
-fn recorded_with(
+/// Returns the firings of the event `key` that are recorded in `table`, and adds one more firing, on line `line` of log
+/// number `log`.
+fn firings_with(
     table: &HashMap<ContentKey, Firings>,
     key: &ContentKey,
     line: u64,
@@ -83,8 +84,8 @@ fn recorded_with(
     }
 }
 
-/// Records in `table` that `entry` fires its event. For each log but the first, `starts` has how many lines come before
-/// it.
+/// Records in `table` that the event in `entry` was fired. For each log except the first, `starts` contains the number
+/// of lines before that log.
 fn record_entry<'a>(
     table: &mut HashMap<ContentKey<'a>, Firings>,
     starts: &[u64],
@@ -94,20 +95,21 @@ fn record_entry<'a>(
         → OnOk result (AreRecorded starts.now (fired ++ entry.entry.now ∷ []) table.new) }
 {
     let key = content_key(entry);
-    let firings = recorded_with(table, &key, entry.line, log_of(starts, entry.line));
+    let firings = firings_with(table, &key, entry.line, log_of(starts, entry.line));
     let _ = table.insert(key, firings)?;
     Ok(())
 }
 
-/// Whether one of the firings `recorded` is on a line before `line`, or in a log after `log`, which contains that line.
+/// Returns whether one of the firings in `recorded` is on a line before line number `line`, or in a log after log
+/// number `log`, which contains that line.
 fn is_before(recorded: Firings, line: u64, log: usize) -> bool
     ensures { result ≡ counts recorded (line, log) }
 {
     recorded.first_line < line || log < recorded.last_log
 }
 
-/// Whether `event`, which was handed out, was fired on an earlier line than its own, or in a later log, according to
-/// `table`.
+/// Returns whether `event` was fired on a line before the line on which it was handed out, or in a later log. `table`
+/// contains the firings.
 fn is_fired(table: &HashMap<ContentKey, Firings>, starts: &[u64], event: &EventEntry) -> bool
     ensures { (fired : List Entry) → AreRecorded starts.now fired table.now
         → result ≡ was_fired starts.now fired event.now }
@@ -119,7 +121,8 @@ fn is_fired(table: &HashMap<ContentKey, Firings>, starts: &[u64], event: &EventE
     }
 }
 
-/// The index of the first of `events` that was not fired before, according to `table`; `None` if each of them was.
+/// Returns the index of the first event in `events` that wasn't fired before according to `table`. Returns `None` if
+/// each event was fired before.
 fn unfired_by(
     table: &HashMap<ContentKey, Firings>,
     starts: &[u64],
@@ -137,13 +140,13 @@ fn unfired_by(
     None
 }
 
-/// The index, counted from 0, of the first of `events`, which were handed out, that none of `fired` fires on an earlier
-/// line; `None` if each of them was fired. If several logs follow each other, a firing in another log counts, whatever
-/// its line, and `starts` has, for each log but the first, how many lines come before it. For a single log, `starts` is
-/// empty.
+/// Returns the index, counted from 0, of the first event in `events` for which `fired` contains no firing on an earlier
+/// line. Returns `None` if each event was fired before. If several logs were joined, a firing on any line of another
+/// log is also accepted. In this case, `starts` contains the number of lines before each log except the first. For a
+/// single log, `starts` is empty.
 ///
-/// Each entry is looked up once by its hash, and its log by a walk over `starts`. Returns an `AllocError` only if there
-/// is no memory for that.
+/// The function looks up each entry once, by its hash, and goes through `starts` to find the entry's log. Returns an
+/// `AllocError` only if memory runs out.
 pub fn first_unfired(
     alloc: Global,
     starts: &[u64],

@@ -1,4 +1,5 @@
-//! What a node may be handed again after something was started on its snapshot.
+//! Predicts which events and queries a node may be handed again after an agent or stock Serf was started on its
+//! snapshot.
 
 ghost use Rattle.std.specs.Prelude.{◌≡◌, ◌&&◌, IfOk, length, nat_lt};
 ghost use Rattle.std.specs.List.{position_from};
@@ -7,11 +8,11 @@ ghost use Rattle.serf_agent.specs.Ideal.{IdealAgent};
 ghost use Rattle.serf_agent.specs.Sound.{IsSound};
 ghost use Rattle.serf_agent.specs.View.{view_of};
 ghost use Rattle.serf_text.specs.Words.{bytes_of};
-ghost use Rattle.serf_judge.specs.HandedAgain.{id_of, is_again, is_new_in_hex, of_time, opened_on, serf_minimum, settings, unescaped};
+ghost use Rattle.serf_judge.specs.HandedAgain.{query_id_or_zero, is_again, is_new_in_hex, of_time, opened_on, serf_minimum, settings, unescaped};
 ghost use Rattle.serf_judge.specs.Kept.{is_line_of};
 
 use crate::entry::{EventEntry, QueryEntry};
-use crate::kept::{first_from, is_of};
+use crate::kept::{first_of_node_since, is_of};
 use crate::key::Delivered;
 use crate::reader::Reader;
 use crate::stock_serf::serf_clocks;
@@ -22,7 +23,8 @@ use serf_snapshot::{EntryFilter, MemorySink, read_kept};
 use serf_text::hex_bytes;
 use std::alloc::{AllocError, Global};
 
-/// The minimum time that stock Serf accepts after it restored `clock`. Serf's sum wraps at 2^64.
+/// Returns the minimum time that stock Serf accepts after it restored `clock`. Serf adds 1 to the clock, and the sum
+/// wraps to 0 at 2^64.
 fn serf_minimum(clock: u64) -> u64
     ensures { result ≡ serf_minimum clock }
 {
@@ -32,8 +34,8 @@ fn serf_minimum(clock: u64) -> u64
     clock + 1
 }
 
-/// The text that a word of a handler's log encodes, as `examples/serf_log_handler.sh` does it: `%` and two hex digits
-/// are a byte, and a single `-` is an empty text.
+/// Decodes a word of a handler's log, as `examples/serf_log_handler.sh` writes it: `%` and two hex digits are one byte,
+/// and a single `-` is an empty text.
 fn unescaped(alloc: Global, word: &[u8]) -> Result<Vec<u8>, AllocError>
     ensures { IfOk result (λ text. text.items ≡ unescaped word.now) }
 {
@@ -45,7 +47,7 @@ fn unescaped(alloc: Global, word: &[u8]) -> Result<Vec<u8>, AllocError>
     Ok(text)
 }
 
-/// A line of a log, as something that an agent opened on a snapshot may hand out or ignore.
+/// A log line with an event or a query, which an agent that is opened on a snapshot either hands out or ignores.
 pub trait Offered: Delivered {
     ghost use Rattle.std.specs.Prelude.{◌≡◌, IfOk, ℕ, List, Bool};
     ghost use Rattle.serf_agent.specs.Ideal.{IdealAgent};
@@ -58,12 +60,12 @@ pub trait Offered: Delivered {
 
     ghost is_new: { List ℕ → IdealAgent → Self → Bool };
 
-    /// The clock for this kind of line that stock Serf restores from a snapshot. Allocates no memory.
+    /// Returns the clock that stock Serf restores from a snapshot for this kind of line. Allocates no memory.
     fn serf_clock_in(text: &[u8], rejoins: bool) -> u64
         ensures { result ≡ serf_clock rejoins kind text.now };
 
-    /// Whether `agent`, which was opened on `text`, would hand this out. Returns an `AllocError` only if there is no
-    /// memory for the texts.
+    /// Returns whether `agent`, which was opened on `text`, would hand out this entry. Returns an `AllocError` only if
+    /// there isn't enough memory for the texts.
     fn is_new_to(
         &self,
         alloc: Global,
@@ -74,8 +76,8 @@ pub trait Offered: Delivered {
             → IfOk result (λ new. new ≡ is_new text.now i self.now) };
 }
 
-/// Whether `agent` would hand out the event of `time` whose name and payload are `name` and `payload` in hex. True if
-/// one of them is not hex.
+/// Returns whether `agent` would hand out the event with the time `time` and with the `name` and the `payload`, which
+/// are in hex. Returns true if the name or the payload isn't hex.
 fn is_new_in_hex(
     alloc: Global,
     agent: &Agent<MemorySink>,
@@ -128,7 +130,7 @@ impl Offered for EventEntry {
     }
 }
 
-/// Whether `text` keeps a query of `time`.
+/// Returns whether the snapshot `text` keeps a query with the time `time`.
 fn keeps_query_at(alloc: Global, text: &[u8], time: Time) -> Result<bool, AllocError>
     ensures { IfOk result (λ keeps. keeps
         ≡ nat_lt 0 (length (queries_in (of_time time) text.now))) }
@@ -142,9 +144,9 @@ fn keeps_query_at(alloc: Global, text: &[u8], time: Time) -> Result<bool, AllocE
     Ok(!kept.queries.is_empty())
 }
 
-/// The ID of a query, or 0 if there is none or it doesn't fit into 32 bits.
-fn id_of(id: Option<u64>) -> u32
-    ensures { result ≡ id_of id }
+/// Returns the ID `id` of a query, or 0 if the query has no ID or an ID that doesn't fit into 32 bits.
+fn query_id_or_zero(id: Option<u64>) -> u32
+    ensures { result ≡ query_id_or_zero id }
 {
     match id {
         Some(id) => u32::try_from(id).unwrap_or(0),
@@ -176,11 +178,12 @@ impl Offered for QueryEntry {
         if keeps_query_at(alloc, text, time)? {
             return Ok(false);
         }
-        Ok(agent.judge_query(time, id_of(self.id)).is_none())
+        Ok(agent.judge_query(time, query_id_or_zero(self.id)).is_none())
     }
 }
 
-/// The settings of an agent that is opened on a snapshot: the default ones, with `keep_events` set to `keeps`.
+/// Returns the settings of an agent that is opened on a snapshot: the default settings, but with `keep_events` set to
+/// `keeps`.
 fn settings(alloc: Global, keeps: bool) -> Result<Config, AllocError>
     ensures { IfOk result (λ config. config ≡ settings keeps) }
 {
@@ -191,7 +194,7 @@ fn settings(alloc: Global, keeps: bool) -> Result<Config, AllocError>
     })
 }
 
-/// An agent of this project that was opened on `text`, with default settings, but with `keep_events` set to `keeps`.
+/// Opens an agent of this project on `text`. The agent has the default settings, but with `keep_events` set to `keeps`.
 fn agent_on(alloc: Global, keeps: bool, text: &[u8]) -> Result<Agent<MemorySink>, AllocError>
     ensures { IfOk result (λ a. (a.concrete ≡ view_of (opened_on keeps text.now))
         × IsSound (opened_on keeps text.now)) }
@@ -204,7 +207,7 @@ fn agent_on(alloc: Global, keeps: bool, text: &[u8]) -> Result<Agent<MemorySink>
     }
 }
 
-/// Whether `entry` was handed to `node`, and `agent`, opened on `text`, would hand it out again.
+/// Returns whether `entry` was handed to `node`, and would be handed out again by `agent`, which was opened on `text`.
 fn is_new_for<E: Offered>(
     alloc: Global,
     agent: &Agent<MemorySink>,
@@ -222,8 +225,8 @@ fn is_new_for<E: Offered>(
     entry.is_new_to(alloc, agent, text)
 }
 
-/// The index, counted from 0, of the first of `entries` that was handed to `node` and that `agent`, opened on `text`,
-/// would hand out again.
+/// Returns the index, counted from 0, of the first entry in `entries` that was handed to `node` and that `agent`, which
+/// was opened on `text`, would hand out again.
 fn first_new<E: Offered>(
     alloc: Global,
     agent: &Agent<MemorySink>,
@@ -247,14 +250,14 @@ fn first_new<E: Offered>(
     }
 }
 
-/// The index, counted from 0, of the first of `entries` that was handed to `node` and may be handed to it again after
-/// `reader` was started on the snapshot `text`; `None` if there is none. Returns an `AllocError` only if there is no
-/// memory for the agent or for the texts.
+/// Returns the index, counted from 0, of the first entry in `entries` that was handed to `node` and may be handed to
+/// the same node again after `reader` was started on the snapshot `text`. Returns `None` if there is no such entry.
+/// Returns an `AllocError` only if there isn't enough memory for the agent or for the texts.
 ///
-/// An agent of this project hands an entry out again exactly if it isn't too old, below the minimum time or already
-/// seen, according to what the agent restored from the text ([`Agent::open`]). Another agent's state at a join can only
-/// raise the minimum time. A query is recognized by its time: if the text keeps a query of that time, it is taken to be
-/// the one that was handed out.
+/// An agent of this project restores its state from the text ([`Agent::open`]), and ignores each entry that is too old,
+/// below the minimum time, or already seen according to that state. The agent hands out every other entry again. If the
+/// agent joins a cluster, the state of another agent can only raise the minimum time. The agent recognizes a query by
+/// its time: if the text keeps a query with the same time, the agent takes the two to be the same query.
 pub fn first_again<E: Offered>(
     alloc: Global,
     reader: Reader,
@@ -268,7 +271,7 @@ pub fn first_again<E: Offered>(
     match reader {
         Reader::Serf { rejoins } => {
             let minimum = serf_minimum(E::serf_clock_in(text, rejoins));
-            Ok(first_from(entries, node, minimum))
+            Ok(first_of_node_since(entries, node, minimum))
         }
         Reader::Agent { keeps } => {
             let agent = agent_on(alloc, keeps, text)?;

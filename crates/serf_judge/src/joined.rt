@@ -1,14 +1,14 @@
-//! Joins two logs into one. The lines of the second one are numbered on from those of the first.
+//! Joins two logs into one. The line numbers of the second log continue those of the first.
 
 ghost use Rattle.std.specs.Prelude.{◌≡◌, ◌++◌, IfOk, map};
 ghost use Rattle.serf_judge.specs.Joined.{joined_logs, moved_on};
 ghost use Rattle.serf_judge.specs.Said.{log_view};
 
-use crate::entry::{BadLine, DatedLine, EventEntry, QueryEntry};
+use crate::entry::{BadLine, DatedLine, EventEntry, QueryEntry, RunEntry};
 use crate::log::Log;
 use std::alloc::AllocError;
 
-/// What a line of a log says, with the line's number: an entry, a bad line or a date.
+/// The content of one line, with the line's number: an entry, a bad line or a date.
 trait Numbered: Sized {
     ghost use Rattle.std.specs.Prelude.{◌≡◌, ℕ};
     ghost use Rattle.serf_judge.specs.Joined.{moved};
@@ -17,8 +17,8 @@ trait Numbered: Sized {
 
     ghost seen: { Self → ℕ × Said };
 
-    /// Itself, on a line that is `lines` lines further down; the number stops at 2^64 - 1.
-    fn further_on(self, lines: u64) -> Self
+    /// Returns the same content, with its line number raised by `lines`. The line number saturates at 2^64 - 1.
+    fn with_line_raised(self, lines: u64) -> Self
         ensures { seen result ≡ moved lines (seen self) };
 }
 
@@ -29,7 +29,7 @@ impl Numbered for EventEntry {
 
     ghost seen = { event_seen };
 
-    fn further_on(mut self, lines: u64) -> EventEntry {
+    fn with_line_raised(mut self, lines: u64) -> EventEntry {
         self.line = self.line.saturating_add(lines);
         self
     }
@@ -42,8 +42,21 @@ impl Numbered for QueryEntry {
 
     ghost seen = { query_seen };
 
-    fn further_on(mut self, lines: u64) -> QueryEntry {
+    fn with_line_raised(mut self, lines: u64) -> QueryEntry {
         self.line = self.line.saturating_add(lines);
+        self
+    }
+}
+
+impl Numbered for RunEntry {
+    ghost use Rattle.serf_judge.specs.Runs.{Run, run_seen};
+
+    ghost Said = { Run };
+
+    ghost seen = { run_seen };
+
+    fn with_line_raised(mut self, lines: u64) -> RunEntry {
+        self.event.line = self.event.line.saturating_add(lines);
         self
     }
 }
@@ -56,7 +69,7 @@ impl Numbered for BadLine {
 
     ghost seen = { bad_seen };
 
-    fn further_on(self, lines: u64) -> BadLine {
+    fn with_line_raised(self, lines: u64) -> BadLine {
         BadLine {
             line: self.line.saturating_add(lines),
             cause: self.cause,
@@ -72,27 +85,27 @@ impl Numbered for DatedLine {
 
     ghost seen = { date_seen };
 
-    fn further_on(mut self, lines: u64) -> DatedLine {
+    fn with_line_raised(mut self, lines: u64) -> DatedLine {
         self.line = self.line.saturating_add(lines);
         self
     }
 }
 
-/// The items of `first`, followed by those of `more`, each `lines` lines further down.
+/// Returns the items in `first`, followed by the items in `more`. The line numbers of the items in `more` are raised by
+/// `lines`.
 fn joined<T: Numbered + Drop>(first: Vec<T>, more: Vec<T>, lines: u64) -> Result<Vec<T>, AllocError>
     ensures { IfOk result (λ all. map T.seen all.items
         ≡ map T.seen first.items ++ moved_on lines (map T.seen more.items)) }
 {
     let mut all = first;
     for one in more {
-        all.push(one.further_on(lines))?;
+        all.push(one.with_line_raised(lines))?;
     }
     Ok(all)
 }
 
-/// The log that says what `first` says, and then what `more` says, whose lines are numbered on from those of `first`.
-///
-/// Returns an `AllocError` only if there is no memory for that.
+/// Returns a log that contains the entries of `first`, followed by the entries of `more`. The line numbers of `more`
+/// continue those of `first`. Returns an `AllocError` only if memory runs out.
 pub fn join_logs(first: Log, more: Log) -> Result<Log, AllocError>
     ensures { IfOk result (λ log. log_view log ≡ joined_logs (log_view first) (log_view more)) }
 {
@@ -101,6 +114,7 @@ pub fn join_logs(first: Log, more: Log) -> Result<Log, AllocError>
         fired: joined(first.fired, more.fired, lines)?,
         events: joined(first.events, more.events, lines)?,
         queries: joined(first.queries, more.queries, lines)?,
+        runs: joined(first.runs, more.runs, lines)?,
         bad: joined(first.bad, more.bad, lines)?,
         dates: joined(first.dates, more.dates, lines)?,
         lines: lines.saturating_add(more.lines),

@@ -1,5 +1,5 @@
-//! Compares a snapshot with a log: which entries may be handed again to a node that is opened on the snapshot, whether
-//! the log names that node, and which lines show that a text is a snapshot.
+//! Compares a snapshot with a log. Determines which entries a node may be handed again if it is opened on the snapshot,
+//! whether the log names the node, and whether a text is a snapshot at all.
 
 ghost use Rattle.std.specs.Prelude.{◌≡◌, position};
 ghost use Rattle.std.specs.List.{list_any};
@@ -10,39 +10,45 @@ use crate::key::Delivered;
 use crate::log::Log;
 use serf_text::split_once;
 
-/// Whether `entry` names `node`, as the one that fired it or was handed it.
+/// Returns whether `node` is the node that `entry` names: the node that fired the event, or that was handed the event
+/// or query.
 pub(crate) fn is_of<E: Delivered>(entry: &E, node: &[u8]) -> bool
     ensures { result ≡ is_line_of E.seen node.now entry.now }
 {
     entry.handed().key.node == node
 }
 
-/// Whether `entry` names `node`, and its time is not below `minimum`.
-fn is_from<E: Delivered>(entry: &E, node: &[u8], minimum: u64) -> bool
+/// Returns whether `entry` names `node`, and its time is at least `minimum`.
+fn is_of_node_since<E: Delivered>(entry: &E, node: &[u8], minimum: u64) -> bool
     ensures { result ≡ is_line_from E.seen node.now minimum entry.now }
 {
     let key = entry.handed().key;
     key.node == node && minimum <= key.time
 }
 
-/// The index, counted from 0, of the first of `entries` that names `node` and whose time is not below `minimum`; `None`
-/// if there is none. Allocates no memory.
-pub(crate) fn first_from<E: Delivered>(entries: &[E], node: &[u8], minimum: u64) -> Option<usize>
+/// Returns the index, counted from 0, of the first entry in `entries` that names `node` and whose time is at least
+/// `minimum`. Returns `None` if there is no such entry. Allocates no memory.
+pub(crate) fn first_of_node_since<E: Delivered>(
+    entries: &[E],
+    node: &[u8],
+    minimum: u64,
+) -> Option<usize>
     ensures { result ≡ position (is_line_from E.seen node.now minimum) entries.now }
 {
     entries
         .iter()
-        .position(|entry| is_from(entry, node, minimum))
+        .position(|entry| is_of_node_since(entry, node, minimum))
 }
 
-/// Whether one of `entries` names `node`.
+/// Returns whether an entry in `entries` names `node`.
 fn is_among<E: Delivered>(entries: &[E], node: &[u8]) -> bool
     ensures { result ≡ list_any (is_line_of E.seen node.now) entries.now }
 {
     entries.iter().any(|entry| is_of(entry, node))
 }
 
-/// Whether `log` says that `node` fired an event, or was handed an event or a query. Allocates no memory.
+/// Returns whether `log` contains a line on which `node` fired an event, or was handed an event or a query. Allocates
+/// no memory.
 pub fn has_node(log: &Log, node: &[u8]) -> bool
     ensures { result ≡ has_line_of node.now log.now }
 {
@@ -51,28 +57,29 @@ pub fn has_node(log: &Log, node: &[u8]) -> bool
         || is_among(log.fired.as_slice(), node)
 }
 
-/// Whether `line` is the line of a snapshot which says that its node left.
+/// Returns whether `line` is the snapshot line `leave`, which means that the node left.
 pub(crate) fn is_leave_line(line: &[u8]) -> bool
     ensures { result ≡ is_leave line.now }
 {
     line == b"leave".as_slice()
 }
 
-/// Whether `line` begins like the lines of events, queries and minimum times, which only agents of this project write.
+/// Returns whether `line` begins like a snapshot line for an event, a query or a minimum time. Only this project's
+/// agents write these lines.
 fn is_own_line(line: &[u8]) -> bool
     ensures { result ≡ is_own line.now }
 {
     line.starts_with(b"#event ") || line.starts_with(b"#query ") || line.starts_with(b"#least ")
 }
 
-/// Whether `bytes` are the first bytes of the word at the beginning of a line that only agents of this project write.
+/// Returns whether `bytes` are a prefix of the first word of a line that only this project's agents write.
 fn is_torn_own(bytes: &[u8]) -> bool
     ensures { result ≡ is_torn_own bytes.now }
 {
     b"#event ".starts_with(bytes) || b"#query ".starts_with(bytes) || b"#least ".starts_with(bytes)
 }
 
-/// Whether `line` begins like one of the lines in which Serf keeps clocks, members and coordinates.
+/// Returns whether `line` begins like one of the lines in which Serf keeps clocks, members and coordinates.
 fn begins_as_kept_line(line: &[u8]) -> bool
     ensures { result ≡ begins_as_kept line.now }
 {
@@ -84,8 +91,8 @@ fn begins_as_kept_line(line: &[u8]) -> bool
         || line.starts_with(b"coordinate: ")
 }
 
-/// Whether `bytes` are the first bytes of the word at the beginning of a clock line; they may be some, all or none of
-/// them.
+/// Returns whether `bytes` are a prefix of the first word of a clock line. The empty text and the whole word are also
+/// prefixes.
 fn is_torn_clock(bytes: &[u8]) -> bool
     ensures { result ≡ is_torn_clock_word bytes.now }
 {
@@ -94,8 +101,7 @@ fn is_torn_clock(bytes: &[u8]) -> bool
         || b"query-clock: ".starts_with(bytes)
 }
 
-/// Whether `bytes` are the first bytes of the word at the beginning of any line of a snapshot, which a crash may leave
-/// of it.
+/// Returns whether `bytes` are a prefix of the first word of any snapshot line. A crash may leave such a prefix.
 fn is_torn_word(bytes: &[u8]) -> bool
     ensures { result ≡ is_torn bytes.now }
 {
@@ -107,7 +113,8 @@ fn is_torn_word(bytes: &[u8]) -> bool
         || b"leave".starts_with(bytes)
 }
 
-/// Whether `line` is a torn word of a snapshot's line and a `#`, with which an agent's opening ends a torn line.
+/// Returns whether `line` consists of the torn first word of a snapshot line, followed by `#`. When an agent opens a
+/// snapshot, it seals a torn line with `#`.
 fn is_sealed_line(line: &[u8]) -> bool
     ensures { result ≡ is_sealed line.now }
 {
@@ -117,38 +124,40 @@ fn is_sealed_line(line: &[u8]) -> bool
     }
 }
 
-/// Whether `line` is a line of a snapshot, either of Serf or of an agent of this project.
+/// Returns whether `line` is a line in a snapshot, either from Serf or from one of this project's agents.
 fn is_line_of_snapshot(line: &[u8]) -> bool
     ensures { result ≡ is_kept_line line.now }
 {
     is_leave_line(line) || begins_as_kept_line(line) || is_own_line(line) || is_sealed_line(line)
 }
 
-/// Whether `text` is a snapshot: it is empty, has a line that Serf or an agent of this project writes into snapshots,
-/// or is what a crash left of the word of its first line. Allocates no memory.
+/// Returns whether `text` is a snapshot. A text is a snapshot if it is empty, if it contains a line that Serf or an
+/// agent of this project writes into snapshots, or if it is only a prefix of the first word of such a line, which a
+/// crash may leave. Allocates no memory.
 pub fn is_snapshot(text: &[u8]) -> bool
     ensures { result ≡ is_snapshot_text text.now }
 {
     is_torn_word(text) || has_line(text, false)
 }
 
-/// Whether the snapshot `text` has a line of events, queries or minimum times, which agents of this project write, and
-/// Serf never does. An agent of this project resumes from all lines, including those before a line `leave`. Allocates
-/// no memory.
+/// Returns whether the snapshot `text` contains a line for an event, a query or a minimum time. This project's agents
+/// write these lines, and Serf never does. An agent of this project resumes from all lines, including those before a
+/// line `leave`. Allocates no memory.
 pub fn is_own_snapshot(text: &[u8]) -> bool
     ensures { result ≡ is_own_text text.now }
 {
     has_line(text, true)
 }
 
-/// Whether `text` has a line that only agents of this project write or, unless `own`, any line of a snapshot.
+/// If `own` is true, returns whether `text` contains a line that only this project's agents write. Otherwise, returns
+/// whether `text` contains any snapshot line.
 fn has_line(text: &[u8], own: bool) -> bool
     ensures { result ≡ list_any (is_line_wanted own) (lines_of text.now) }
 {
     let mut rest = text;
     'lines: loop {
         let (line, more) = split_once(rest, b'\n');
-        if is_wanted(line, own) {
+        if is_snapshot_line(line, own) {
             return true;
         }
         match more {
@@ -158,8 +167,9 @@ fn has_line(text: &[u8], own: bool) -> bool
     }
 }
 
-/// Whether `line` is one that only agents of this project write or, unless `is_own_only`, any line of a snapshot.
-fn is_wanted(line: &[u8], is_own_only: bool) -> bool
+/// If `is_own_only` is true, returns whether `line` is a line that only this project's agents write. Otherwise, returns
+/// whether `line` is any snapshot line.
+fn is_snapshot_line(line: &[u8], is_own_only: bool) -> bool
     ensures { result ≡ is_line_wanted is_own_only line.now }
 {
     if is_own_only {
@@ -169,8 +179,9 @@ fn is_wanted(line: &[u8], is_own_only: bool) -> bool
     }
 }
 
-/// The part of the snapshot `text` that Serf reads if it is started without `-rejoin`: whatever is after the last line
-/// `leave`, or all of it if there is none. A `leave` without its newline is not a line. Allocates no memory.
+/// Returns the part of the snapshot `text` that Serf reads if it is started without `-rejoin`: the text after the last
+/// line `leave`, or the whole text if it contains no line `leave`. A final `leave` without a newline is not a line.
+/// Allocates no memory.
 pub fn after_leave(text: &[u8]) -> &[u8]
     ensures { lines_of result.now ≡ counted_lines (lines_of text.now) }
 {

@@ -1,8 +1,9 @@
-//! What distinguishes an event, or a query, at a node from all others, borrowed from its entry.
+//! The keys that distinguish an event or a query at a node from all others. A key is borrowed from its entry.
 
 use crate::entry::{EventEntry, QueryEntry};
 
-/// A node, and the event or the query that it was handed. An event has no ID, and a query has no name and no payload.
+/// A node, together with the event or the query that the node was handed. An event has no ID, and a query has no name
+/// and no payload.
 #[derive(Clone, Copy, PartialEq, Eq, Hash)]
 pub struct Key<'a> {
     pub node: &'a [u8],
@@ -20,14 +21,16 @@ pub struct Delivery<'a> {
     pub key: Key<'a>,
 }
 
-/// An entry of a log: an event or a query, with its line and the node that was handed it (or that fired it).
+/// An entry in a log: an event or a query, the entry's line, and the node that fired the event or was handed the event
+/// or query.
 pub trait Delivered: Sized {
     ghost use Rattle.std.specs.Prelude.{◌≡◌, ℕ};
     ghost use Rattle.serf_judge.specs.Identity.{Identity, handed_seen};
 
     ghost seen: { Self → ℕ × Identity };
 
-    /// The entry's line, with the node and what it was handed. Allocates no memory.
+    /// Returns the number of the entry's line, and the key of the entry: the node, and the event or query that the node
+    /// was handed. Allocates no memory.
     fn handed(&self) -> Delivery<'_>
         ensures { handed_seen result ≡ seen self.now };
 }

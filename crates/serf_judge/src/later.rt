@@ -1,4 +1,5 @@
-//! Whether each node fired events only at later times than those of all events that it was handed on earlier lines.
+//! Checks whether each node fired events only at later times than those of all events that the node was handed on
+//! earlier lines.
 
 ghost use Rattle.std.specs.Prelude.{◌≡◌, ◌↔◌, ◌≤◌, ◌<◌, ◌++◌, ◌∷◌, ◌||◌, [], ℕ, Err, IfOk, IsTrue, List, MatchOption, OnOk, Some, length, nat_le, position, slice_get, take};
 ghost use Rattle.std.specs.HashMap.{get};
@@ -12,17 +13,19 @@ use std::alloc::{AllocError, Global};
 use std::collections::HashMap;
 use thiserror::Error;
 
-/// Why it could not be judged whether nodes fired only later than what they were handed.
+/// The reason why the events could not be judged.
 #[derive(Clone, Copy, Debug, PartialEq, Eq, Error)]
 pub enum LaterError {
-    /// An entry comes after an entry of a later line. This never happens with the entries of a log that was read.
+    /// An entry follows an entry that is on a later line. This error never occurs with the entries of a log that was
+    /// read.
     #[error("the entries are not in the order of their lines")]
     OutOfOrder,
     #[error("out of memory")]
     OutOfMemory,
 }
 
-/// The larger one of `time` and the time that `largest` has for `node`; `time` if it has none.
+/// Returns the larger of `time` and the time of `node` in the table `largest`. Returns `time` if the table doesn't
+/// contain the node.
 fn largest_with(largest: &HashMap<&[u8], u64>, node: &&[u8], time: u64) -> u64
     ensures { (lowest : ℕ) → nat_le lowest result
         ≡ (says (λ recorded t. nat_le t recorded) (get is_same_text largest.now node.now) lowest
@@ -34,7 +37,7 @@ fn largest_with(largest: &HashMap<&[u8], u64>, node: &&[u8], time: u64) -> u64
     }
 }
 
-/// Raises the time that `largest` has for the node of `event` to at least the time of `event`.
+/// Makes sure that the time in `largest` for the node of `event` is at least the time of `event`.
 fn record_entry<'a>(
     largest: &mut HashMap<&'a [u8], u64>,
     event: &'a EventEntry,
@@ -48,8 +51,8 @@ fn record_entry<'a>(
     Ok(())
 }
 
-/// Records in `largest` the times of those of `events` that are on lines before `line`. The times of the first
-/// `recorded` of them are already there. Returns how many of the first events are recorded afterwards.
+/// Records in `largest` the times of the events that are on lines before `line`. The first `recorded` events in
+/// `events` are already in the table. Returns the number of events that are in the table afterwards.
 fn record_before<'a>(
     largest: &mut HashMap<&'a [u8], u64>,
     events: &'a [EventEntry],
@@ -73,9 +76,9 @@ fn record_before<'a>(
     Ok(place)
 }
 
-/// The index, counted from 0, of the first of `events` that the node of `firing` was handed on an earlier line, at
-/// `time` or later; `None` if there is none.
-fn first_reached(events: &[EventEntry], firing: &EventEntry, time: u64) -> Option<usize>
+/// Returns the index, counted from 0, of the first event in `events` that the node of `firing` was handed on an earlier
+/// line and whose time is at least `time`. Returns `None` if there is no such event.
+fn first_at_or_after(events: &[EventEntry], firing: &EventEntry, time: u64) -> Option<usize>
     ensures { result ≡ position (is_handed_at firing.now time) events.now }
 {
     events.iter().position(|event| firing.node == event.node
@@ -83,10 +86,10 @@ fn first_reached(events: &[EventEntry], firing: &EventEntry, time: u64) -> Optio
         && time <= event.time)
 }
 
-/// The index, counted from 0, of one of `events` that the node of `firing` was handed on an earlier line, at a time not
-/// below that of `firing`; `None` if there is none. `largest` has the maximum time of each node's events on earlier
-/// lines.
-fn handed_after(
+/// Returns the index, counted from 0, of an event that the node of `firing` was handed on an earlier line and whose
+/// time is not below that of `firing`. Returns `None` if there is no such event. For each node, `largest` contains the
+/// maximum time of the node's events on earlier lines.
+fn event_not_before(
     largest: &HashMap<&[u8], u64>,
     events: &[EventEntry],
     firing: &EventEntry,
@@ -101,26 +104,27 @@ fn handed_after(
             if time < firing.time {
                 return None;
             }
-            first_reached(events, firing, time)
+            first_at_or_after(events, firing, time)
         }
         None => None,
     }
 }
 
-/// Whether `entries` are in the order of their lines. Allocates no memory.
+/// Returns whether `entries` are in the order of their lines. Allocates no memory.
 fn is_in_order(entries: &[EventEntry]) -> bool
     ensures { IsTrue result ↔ IsInOrder entries.now }
 {
     entries.is_sorted_by(|one, next| one.line <= next.line)
 }
 
-/// The index of the first of `fired` whose node was handed one of `events` of the same or a later time on an earlier
-/// line, and the index of an event like this. Both are counted from 0. `None` if each node fired only later than what
-/// it was handed before.
+/// Finds the first firing in `fired` whose node was handed, on an earlier line, an event with the same or a later time.
+/// Returns the index of the firing in `fired` and the index of such an event in `events`, both counted from 0. Returns
+/// `None` if each node fired only at later times than those of all events that the node was handed before.
 ///
-/// Each entry is looked up once by its hash, and the events are walked through once more if there is a result. Both
-/// lists have to be in the order of their lines, as [`crate::read_log`] returns them. The error is `OutOfOrder` if and
-/// only if one of them is not, and `OutOfMemory` if there is no memory for the table.
+/// The function looks up each entry once, by its hash. If the function finds a pair, it goes through `events` once
+/// more. Both lists have to be in the order of their lines, as [`crate::read_log`] returns them. The error is
+/// `OutOfOrder` if and only if one of the two lists is not in the order of its lines, and `OutOfMemory` if there isn't
+/// enough memory for the table.
 pub fn first_not_later(
     alloc: Global,
     fired: &[EventEntry],
@@ -141,7 +145,7 @@ pub fn first_not_later(
             Ok(recorded) => recorded,
             Err(_) => return Err(LaterError::OutOfMemory),
         };
-        if let Some(event) = handed_after(&largest, events, firing) {
+        if let Some(event) = event_not_before(&largest, events, firing) {
             return Ok(Some((place, event)));
         }
     }

@@ -1,8 +1,10 @@
-//! Judges the promises of Serf events and queries on any log: whether an event or a query was handed to a node twice,
-//! whether each event was fired before it was handed out, and whether each node fired only later than what it was
-//! handed before. It also tallies what each node was handed again, and lists for each event the nodes that were never
-//! handed it. If a log has exactly what the agents of a run were handed, nothing is found twice if and only if the run
-//! keeps the promise Once. An entry is what one line says. Lines are counted from 1, and the entries of a list from 0.
+//! Checks a log against the promises about Serf's events and queries: no event or query was handed to a node twice,
+//! each event was fired before it was handed out, and each node fired an event only at a later time than those of all
+//! events that the node was handed before. The crate also counts how often each node was handed an event or a query
+//! again. For each event, the crate lists the nodes that were never handed the event. The crate also lists the handlers
+//! that began and never ended. If a log records exactly what the agents in a run were handed, the crate finds no event
+//! twice if and only if the run keeps the promise Once. An entry is the content of one line. Lines are counted from 1,
+//! and the entries in a list are counted from 0.
 #![tactic(auto)]
 
 mod again;
@@ -20,10 +22,11 @@ mod missed;
 mod nodes;
 mod once;
 mod reader;
+mod runs;
 mod stock_serf;
 mod tally;
 
-pub use entry::{BadLine, DatedLine, EventEntry, QueryEntry};
+pub use entry::{BadLine, DatedLine, EventEntry, QueryEntry, RunEntry};
 pub use fired::first_unfired;
 pub use handed_again::{Offered, first_again};
 pub use joined::join_logs;
@@ -35,5 +38,6 @@ pub use missed::{Missed, MissedEvent, missed_events};
 pub use nodes::{log_nodes, receivers};
 pub use once::{first_event_twice, first_pair, first_query_twice};
 pub use reader::Reader;
+pub use runs::cut_off;
 pub use stock_serf::serf_clocks;
 pub use tally::{NodeTally, Tally, tally_repeats};

@@ -1,4 +1,4 @@
-//! Which events some node was never handed, among the nodes that were handed any event.
+//! Finds the events that some node was never handed. Only nodes that were handed at least one event are considered.
 
 ghost use Rattle.std.specs.Prelude.{◌≡◌, ◌++◌, ◌∷◌, [], IfOk, OnOk, filter, length, map, take};
 ghost use Rattle.serf_judge.specs.Fired.{content_of, key_content};
@@ -20,20 +20,20 @@ pub struct MissedEvent<'a> {
     pub time: u64,
     pub name: &'a [u8],
     pub payload: &'a [u8],
-    /// The nodes that were never handed it, up to the maximum that the caller requested.
+    /// The nodes that were never handed the event, up to the maximum that the caller requested.
     pub nodes: Vec<&'a [u8]>,
 }
 
-/// What a log says about the events that some node was never handed.
+/// The result of searching a log for events that some node was never handed.
 #[derive(Drop)]
 pub struct Missed<'a> {
-    /// How many events were handed out. An event that was handed to many nodes, or again, is counted once.
+    /// The number of events that were handed out. An event that was handed out several times is counted only once.
     pub events: usize,
     /// The events that some node was never handed, in the order in which they first appear in the log.
     pub missed: Vec<MissedEvent<'a>>,
 }
 
-/// The time, name and payload of each event of `entries`, once, in the order in which the events first appear.
+/// Returns the time, name and payload of each event in `entries` once, in the order in which the events first appear.
 fn contents<'a>(alloc: Global, entries: &'a [EventEntry]) -> Result<Vec<ContentKey<'a>>, AllocError>
     ensures { IfOk result (λ events. map key_content events.items
         ≡ contents_of entries.entry.now) }
@@ -45,7 +45,7 @@ fn contents<'a>(alloc: Global, entries: &'a [EventEntry]) -> Result<Vec<ContentK
     firsts(alloc, keys.as_slice())
 }
 
-/// The key of each of `entries`: which node was handed which event.
+/// Returns the key of each entry in `entries`: the node, and the event that the node was handed.
 fn handed_to<'a>(alloc: Global, entries: &'a [EventEntry]) -> Result<HashSet<Key<'a>>, AllocError>
     ensures { IfOk result (HasHanded entries.entry.now) }
 {
@@ -56,7 +56,7 @@ fn handed_to<'a>(alloc: Global, entries: &'a [EventEntry]) -> Result<HashSet<Key
     Ok(handed)
 }
 
-/// Whether `node` was never handed `event`; `handed` has the keys of everything that was handed out.
+/// Returns whether `node` was never handed `event`. `handed` contains the keys of all events that were handed out.
 fn is_missing<'a>(handed: &HashSet<Key<'a>>, event: ContentKey<'a>, node: &'a [u8]) -> bool
     ensures { result ≡ lacks handed.now event.entry node.entry }
 {
@@ -70,8 +70,8 @@ fn is_missing<'a>(handed: &HashSet<Key<'a>>, event: ContentKey<'a>, node: &'a [u
     !handed.contains(&key)
 }
 
-/// Those of `nodes` that were never handed `event`, at most the first `maximum` of them; `handed` has the keys of
-/// everything that was handed out.
+/// Returns at most `maximum` nodes that were never handed `event`, in the order of `nodes`. `handed` contains the keys
+/// of all events that were handed out.
 fn missing_nodes<'a>(
     alloc: Global,
     handed: &HashSet<Key<'a>>,
@@ -90,7 +90,8 @@ fn missing_nodes<'a>(
         .collect(alloc)
 }
 
-/// Appends `event` to `missed`, with `nodes`, the nodes that were never handed it. Appends nothing if there are none.
+/// Appends `event` to `missed`, together with `nodes`, the nodes that were never handed the event. If `nodes` is empty,
+/// appends nothing.
 fn write_missed<'a>(
     missed: &mut Vec<MissedEvent<'a>>,
     event: ContentKey<'a>,
@@ -100,8 +101,8 @@ fn write_missed<'a>(
         ≡ map missing_view missed.old.items ++ filter has_nodes
         (missing_at (key_content event.entry) (texts_of nodes.entry.items) ∷ [])) }
 {
-    let is_had = nodes.as_slice().is_empty();
-    if is_had {
+    let no_node_missed = nodes.as_slice().is_empty();
+    if no_node_missed {
         return Ok(());
     }
     missed.push(MissedEvent {
@@ -113,12 +114,13 @@ fn write_missed<'a>(
     Ok(())
 }
 
-/// Each event that some node was never handed, in the order in which the events first appear in `entries`, with these
-/// nodes, out of those that were handed any event, in their order. At most `maximum` nodes are listed for each event,
-/// and no event is listed if `maximum` is 0.
+/// Returns each event that some node was never handed, in the order in which the events first appear in `entries`. With
+/// each event, returns the list of nodes that were never handed the event, in the order in which the nodes first
+/// appear. Only nodes that were handed at least one event are listed. At most `maximum` nodes are listed for each
+/// event, and no event is returned if `maximum` is 0.
 ///
-/// Each entry is looked up once by its hash, and each event once for each node until enough nodes are listed.
-/// Returns an `AllocError` only if there is no memory for that.
+/// The function looks up each entry once, by its hash. The function looks up each event once for each node, until
+/// enough nodes are listed. Returns an `AllocError` only if memory runs out.
 pub fn missed_events<'a>(
     alloc: Global,
     entries: &'a [EventEntry],

@@ -1,4 +1,4 @@
-//! The nodes that a log names, each of them once. A node is identified by its name.
+//! Lists the nodes that a log names, each node once. Nodes are distinguished by their names.
 
 ghost use Rattle.std.specs.Prelude.{◌≡◌, ◌++◌, IfOk, OnOk};
 ghost use Rattle.serf_judge.specs.Again.{firsts_of};
@@ -10,7 +10,7 @@ use crate::key::Delivered;
 use crate::log::Log;
 use std::alloc::{AllocError, Global};
 
-/// Appends the node of each of `entries` to `nodes`.
+/// Appends the node of each entry in `entries` to `nodes`.
 fn add_nodes<'a, E: Delivered>(
     nodes: &mut Vec<&'a [u8]>,
     entries: &'a [E],
@@ -24,7 +24,7 @@ fn add_nodes<'a, E: Delivered>(
     Ok(())
 }
 
-/// Each of `nodes` once, in the order in which they first appear.
+/// Returns each node in `nodes` once, in the order in which the nodes first appear.
 pub(crate) fn each_once<'a>(alloc: Global, nodes: &[&'a [u8]]) -> Result<Vec<&'a [u8]>, AllocError>
     ensures { IfOk result (λ once. texts_of once.items
         ≡ firsts_of bytes_eq (texts_of nodes.entry.now)) }
@@ -32,9 +32,10 @@ pub(crate) fn each_once<'a>(alloc: Global, nodes: &[&'a [u8]]) -> Result<Vec<&'a
     firsts(alloc, nodes)
 }
 
-/// Each node that was handed one of `entries`, once, in the order in which the nodes first appear.
+/// Returns the nodes that were handed the events or queries in `entries`, each node once, in the order in which the
+/// nodes first appear.
 ///
-/// Each entry is looked up once by its hash. Returns an `AllocError` only if there is no memory for that.
+/// The function looks up each entry once, by its hash. Returns an `AllocError` only if memory runs out.
 pub fn receivers<'a, E: Delivered>(
     alloc: Global,
     entries: &'a [E],
@@ -46,8 +47,9 @@ pub fn receivers<'a, E: Delivered>(
     each_once(alloc, nodes.as_slice())
 }
 
-/// Each node that `log` names, once: first those that were handed an event, then those that were handed a query, and
-/// then those that fired an event. It takes as long as [`receivers`], and has the same errors.
+/// Returns the nodes that `log` names, each node once: first the nodes that were handed an event, then those that were
+/// handed a query, and then those that fired an event. The function takes as long as [`receivers`], and returns the
+/// same errors.
 pub fn log_nodes<'a>(alloc: Global, log: &'a Log) -> Result<Vec<&'a [u8]>, AllocError>
     ensures { IfOk result (λ nodes. texts_of nodes.items ≡ log_nodes_of log.entry.now) }
 {

@@ -1,5 +1,5 @@
-//! Whether an event, or a query, was handed to a node twice, which means that two keys are equal. Keys are found by
-//! their hashes.
+//! Checks whether an event or a query was handed to a node twice, that is, whether two keys are equal. Keys are looked
+//! up by their hashes.
 
 ghost use Rattle.std.specs.Prelude.{◌≡◌, ◌↔◌, IfOk, List, MatchOption, None, map};
 ghost use Rattle.serf_model.specs.Promises.{Once, QueryHandedOnce};
@@ -15,10 +15,12 @@ use std::alloc::{AllocError, Global};
 use std::collections::HashMap;
 use std::hash::Hash;
 
-/// The indexes of the first two equal keys, the earlier one first. Of all pairs of equal keys, they have the smallest
-/// later index, and with it the smallest earlier index. Indexes are counted from 0. `None` if no two keys are equal.
+/// Returns the indexes of the first two equal keys, the smaller index first. Returns `None` if no two keys are equal.
+/// If there are several pairs of equal keys, returns the pair with the smallest later index, and among the pairs with
+/// that later index, the pair with the smallest earlier index. Indexes are counted from 0.
 ///
-/// Each key is looked up once by its hash. Returns an `AllocError` only if there is no memory for the keys.
+/// The function looks up each key once, by its hash. Returns an `AllocError` only if there isn't enough memory for the
+/// keys.
 pub fn first_pair<K: Eq + Hash + Copy>(
     alloc: Global,
     keys: &[K],
@@ -37,8 +39,8 @@ pub fn first_pair<K: Eq + Hash + Copy>(
     Ok(None)
 }
 
-/// The indexes, chosen as in [`first_pair`], of the first two of `entries` that hand the same event or query to the
-/// same node.
+/// Returns the indexes of the first two entries in `entries` that hand the same event or query to the same node. The
+/// pair is chosen as in [`first_pair`].
 fn first_twice<E: Delivered>(
     alloc: Global,
     entries: &[E],
@@ -54,14 +56,15 @@ fn first_twice<E: Delivered>(
     first_pair(alloc, keys.as_slice())
 }
 
-/// The indexes, counted from 0, of the first two of `entries` that hand the same event, which is a time, a name and a
-/// payload, to the same node, the earlier one first. Of all these pairs, they have the smallest later index, and with
-/// it the smallest earlier index. `None` if there is no such pair.
+/// Returns the indexes, counted from 0, of the first two entries in `entries` that hand the same event to the same
+/// node, the smaller index first. Returns `None` if there is no such pair. Two events are the same if their times,
+/// names and payloads are equal. If there are several pairs, returns the pair with the smallest later index, and among
+/// the pairs with that later index, the pair with the smallest earlier index.
 ///
-/// For a log that has what the agents of a run were handed, it is `None` if and only if the run keeps the promise
-/// `Once`.
+/// If the log records exactly what the agents of a run were handed, the result is `None` if and only if the run keeps
+/// the promise `Once`.
 ///
-/// Each entry is looked up once by its hash. Returns an `AllocError` only if there is no memory for that.
+/// The function looks up each entry once, by its hash. Returns an `AllocError` only if memory runs out.
 pub fn first_event_twice(
     alloc: Global,
     entries: &[EventEntry],
@@ -75,12 +78,12 @@ pub fn first_event_twice(
     first_twice(alloc, entries)
 }
 
-/// The indexes, counted from 0, of the first two of `entries` that hand the same query, which is a time and an ID or
-/// none, to the same node. They are chosen as in [`first_event_twice`], with the same errors. `None` if no two entries
-/// do.
+/// Returns the indexes, counted from 0, of the first two entries in `entries` that hand the same query to the same
+/// node. Returns `None` if there is no such pair. Two queries are the same if their times are equal, and their IDs are
+/// equal or both missing. The pair is chosen as in [`first_event_twice`], and the errors are the same.
 ///
-/// For a log that has what the agents of a run were handed, it is `None` if and only if no agent was handed a query
-/// twice.
+/// If the log records exactly what the agents of a run were handed, the result is `None` if and only if no agent was
+/// handed a query twice.
 pub fn first_query_twice(
     alloc: Global,
     entries: &[QueryEntry],

@@ -1,4 +1,4 @@
-//! The clocks that stock Serf restores from a snapshot.
+//! Computes the clocks that stock Serf restores from a snapshot.
 
 ghost use Rattle.std.specs.Prelude.{◌≡◌};
 ghost use Rattle.serf_snapshot.specs.Clocks.{prefix_of};
@@ -9,8 +9,8 @@ use crate::kept::is_leave_line;
 use serf_snapshot::Clocks;
 use serf_text::{number, split_once};
 
-/// The number below 2^64 that follows `prefix` in `line`; `None` if the line doesn't begin with it, or if anything else
-/// follows.
+/// Returns the number below 2^64 that follows `prefix` in `line`. Returns `None` unless `line` consists of `prefix` and
+/// such a number.
 fn number_after(prefix: &[u8], line: &[u8]) -> Option<u64>
     ensures { result ≡ number_after prefix.now line.now }
 {
@@ -21,8 +21,9 @@ fn number_after(prefix: &[u8], line: &[u8]) -> Option<u64>
     }
 }
 
-/// The value of a clock after one more line: that of `line` if it is a clock line that begins with `prefix`, 0 if it is
-/// a line `leave` and Serf doesn't rejoin, and otherwise `clock`.
+/// Returns the value of a clock after one more line of the snapshot. A clock line that begins with `prefix` sets the
+/// clock. A line `leave` resets the clock to 0 unless Serf rejoins. Any other line leaves the clock at the value
+/// `clock`.
 fn clock_after(rejoins: bool, prefix: &[u8], clock: u64, line: &[u8]) -> u64
     ensures { result ≡ clock_after rejoins prefix.now clock line.now }
 {
@@ -35,13 +36,13 @@ fn clock_after(rejoins: bool, prefix: &[u8], clock: u64, line: &[u8]) -> u64
     }
 }
 
-/// The clocks that stock Serf 0.9.4 restores from the snapshot `text`. `rejoins` is whether it is started with
-/// `-rejoin`. Allocates no memory.
+/// Returns the clocks that stock Serf 0.9.4 restores from the snapshot `text`. If `rejoins` is true, Serf is started
+/// with `-rejoin`. Allocates no memory.
 ///
-/// For each kind, the last line determines the clock, even if an earlier one is larger, and without any line the clock
-/// is 0. Without `-rejoin`, a line `leave` resets all clocks to 0. A line with a number of 2^64 or more is not a clock
-/// line, and neither is what follows the last newline. A value may be 2^64 - 1: Serf then accepts every time, because
-/// the minimum time that it accepts wraps to 0.
+/// For each kind of clock, the last line of that kind determines the value, even if an earlier line has a larger value.
+/// A clock for which there is no line is 0. Without `-rejoin`, a line `leave` resets all clocks to 0. A line with a
+/// number of 2^64 or more is not a clock line, and neither is the text after the last newline. If a value is 2^64 - 1,
+/// Serf accepts every time, because the minimum time that it accepts wraps to 0.
 pub fn serf_clocks(text: &[u8], rejoins: bool) -> Clocks
     ensures member { result.member_clock ≡ serf_clock rejoins Member text.now }
     ensures event { result.event_clock ≡ serf_clock rejoins Event text.now }
@@ -65,7 +66,7 @@ pub fn serf_clocks(text: &[u8], rejoins: bool) -> Clocks
     }
 }
 
-/// The clocks after one more line.
+/// Returns the clocks after one more line of the snapshot.
 fn after_line(clocks: Clocks, line: &[u8], rejoins: bool) -> Clocks
     ensures member { result.member_clock
         ≡ clock_after rejoins (prefix_of Member) clocks.member_clock line.now }

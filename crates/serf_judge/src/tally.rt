@@ -1,5 +1,5 @@
-//! Tallies of lines that hand something to nodes: for each node, how many lines there are, and the first and the last
-//! of them.
+//! For each node, counts the lines that hand an event or a query to the node, and finds the first and the last of the
+//! lines.
 
 ghost use Rattle.std.specs.Prelude.{◌≡◌, ℕ, ◌++◌, ◌∷◌, [], IfOk, List, OnOk, map};
 ghost use Rattle.serf_judge.specs.Nodes.{texts_of};
@@ -13,10 +13,10 @@ use crate::nodes::each_once;
 use std::alloc::{AllocError, Global};
 use std::collections::HashMap;
 
-/// The tally of some lines that hand something to one node.
+/// The tally of the lines that hand events or queries to one node.
 #[derive(Clone, Copy, PartialEq, Eq)]
 pub struct Tally {
-    /// How many lines there are; the count stops at 2^64 - 1.
+    /// The number of lines, which saturates at 2^64 - 1.
     pub count: u64,
     pub min_time: u64,
     pub largest_time: u64,
@@ -25,14 +25,14 @@ pub struct Tally {
     pub last_line: u64,
 }
 
-/// A node, and the tally of its lines.
+/// A node, and the tally of the node's lines.
 #[derive(Clone, Copy)]
 pub struct NodeTally<'a> {
     pub node: &'a [u8],
     pub tally: Tally,
 }
 
-/// The tally of no lines: the minimums are 2^64 - 1, and the maximums are 0.
+/// Returns the tally of an empty list of lines: the minimums are 2^64 - 1, and the maximums are 0.
 fn no_lines() -> Tally
     ensures { result ≡ tally_of [] }
 {
@@ -45,7 +45,7 @@ fn no_lines() -> Tally
     }
 }
 
-/// `tally` with one more line, `line`.
+/// Returns `tally` with `line` added.
 fn one_more(tally: Tally, line: Delivery<'_>) -> Tally
     ensures { (own : List (ℕ × Identity)) → tally ≡ tally_of own
         → result ≡ tally_of (own ++ handed_seen line.entry ∷ []) }
@@ -59,7 +59,8 @@ fn one_more(tally: Tally, line: Delivery<'_>) -> Tally
     }
 }
 
-/// The tally that `table` has for `node`, or that of no lines if it has none.
+/// Returns the tally of `node` in `table`, or the tally of an empty list of lines if the table doesn't contain the
+/// node.
 fn tally_at(table: &HashMap<&[u8], Tally>, node: &[u8]) -> Tally
     ensures { (lines : List (ℕ × Identity)) → AreTallied lines table.now
         → result ≡ tally_of (lines_to node.now lines) }
@@ -80,7 +81,7 @@ fn add_line<'a>(table: &mut HashMap<&'a [u8], Tally>, line: Delivery<'a>) -> Res
     Ok(())
 }
 
-/// The tally of each node's lines among `lines`.
+/// Returns a table with the tally of each node that `lines` name.
 fn table_of<'a>(
     alloc: Global,
     lines: &[Delivery<'a>],
@@ -94,7 +95,7 @@ fn table_of<'a>(
     Ok(table)
 }
 
-/// Each node of `lines` once, in the order in which the nodes first appear.
+/// Returns the nodes that `lines` name, each node once, in the order in which the nodes first appear.
 fn nodes_in_order<'a>(alloc: Global, lines: &[Delivery<'a>]) -> Result<Vec<&'a [u8]>, AllocError>
     ensures { IfOk result (λ nodes. texts_of nodes.items
         ≡ nodes_of (map handed_seen lines.entry.now)) }
@@ -106,7 +107,8 @@ fn nodes_in_order<'a>(alloc: Global, lines: &[Delivery<'a>]) -> Result<Vec<&'a [
     each_once(alloc, nodes.as_slice())
 }
 
-/// Each node of `lines` once, in the order in which the nodes first appear, with the tally of its lines.
+/// Returns the nodes that `lines` name, each node once and with the tally of its lines, in the order in which the nodes
+/// first appear.
 pub(crate) fn tallies<'a>(
     alloc: Global,
     lines: &[Delivery<'a>],
@@ -124,11 +126,12 @@ pub(crate) fn tallies<'a>(
     Ok(told)
 }
 
-/// Each node that was handed something again, in the order in which this first happened, with the tally of those of
-/// `entries` that hand it what an earlier entry handed to it. An event is a time, a name and a payload, and a query is
-/// a time and an ID.
+/// Returns each node that was handed an event or a query again, in the order in which this first happened to the nodes.
+/// With each node, returns a tally of its repeats, which are the entries that hand the node an event or a query that an
+/// earlier entry already handed to the same node. Two events are the same if their times, names and payloads are equal.
+/// Two queries are the same if their times and IDs are equal.
 ///
-/// Each entry is looked up once by its hash. Returns an `AllocError` only if there is no memory for that.
+/// The function looks up each entry once, by its hash. Returns an `AllocError` only if memory runs out.
 pub fn tally_repeats<'a, E: Delivered>(
     alloc: Global,
     entries: &'a [E],

@@ -1,5 +1,5 @@
 -- The names of std, of the crates below and of the definitions that the proofs of this crate cite.
-pub use Rattle.std.proofs.Common.{Bool, Bor, Decides, IsTrue, List, None, Option, Some, [], ap, append_assoc, arith, cond, drop, false, get_or, length, map, nat_eq, nat_le, nat_lt}
+pub use Rattle.std.proofs.Common.{Bool, Bor, Decides, IsTrue, List, None, Option, Some, [], ap, append_assoc, arith, codes, cond, drop, false, get_or, length, map, nat_eq, nat_le, nat_lt}
 pub use Rattle.std.proofs.Common.{refl, rules, sym, take, true, true≢false, unwrap_or, ℕ, ◌&&◌, ◌++◌, ◌+◌, ◌<◌, ◌==◌, ◌↔◌, ◌∙◌, ◌∷◌, ◌≡◌, ◌≤◌, ◌⊎◌, inl, inr}
 pub use Rattle.std.proofs.Common.{OnOk, subst, take_all}
 pub use Rattle.std.proofs.lemmas.Bool.{and_from, and_parts, cases_lt, le-leb, leb-true, lt-ltb, ltb-false, ltb-true}
@@ -19,7 +19,8 @@ pub use Rattle.std.specs.Option.{is_some, option_eq, option_or}
 pub use Rattle.std.specs.Prelude.{find, slice_get}
 pub use Rattle.std.specs.Str.{bytes_eq}
 pub use Rattle.serf_judge.specs.Again.{picked_after}
-pub use Rattle.serf_judge.specs.Identity.{Identity, is_same}
+pub use Rattle.serf_judge.specs.Identity.{Identity, handed_seen, is_same}
+pub use Rattle.serf_judge.specs.Runs.{run_seen}
 pub use Rattle.serf_judge.specs.Tallies.{repeats_among, told_of}
 pub use Rattle.serf_judge.specs.declared.entry.DatedLine.{DatedLine}
 pub use Rattle.serf_judge_json.specs.Entries.{bad_text, counts_text, entries_text, node_text, read_text}
@@ -33,4 +34,5 @@ pub use Rattle.std.specs.List.{position_from}
 pub use Rattle.std.specs.Option.{option_and_then, option_map}
 pub use Rattle.serf_judge_json.specs.Judgement.{lines_text, verdicts_text}
 pub use Rattle.serf_judge_json.specs.Missing.{missed_text}
+pub use Rattle.serf_judge_json.specs.Runs.{runs_text}
 pub use Rattle.serf_judge.specs.HandedAgain.{is_again}

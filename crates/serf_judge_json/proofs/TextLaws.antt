@@ -7,6 +7,6 @@ pub all-written : {X Y : Type 0} (f : Y → List ℕ) (v : X → Y) (xs items : 
 all-written f v xs items ys n out start are end same named =
     are ∙ ap (λ l. start ++ flat_map (λ x. f (v x)) l) (take_all n xs end ∙ same) ∙ ap (λ t. start ++ t) (sym (flat_map-map f v items) ∙ ap (flat_map f) named)
 
--- four texts that were appended, one after another
-pub all-joined : (out a b c d : List ℕ) → (((out ++ a) ++ b) ++ c) ++ d ≡ out ++ (((a ++ b) ++ c) ++ d)
-all-joined out a b c d = simp append_assoc
+-- five texts that were appended, one after another
+pub all-joined : (out a b c d e : List ℕ) → ((((out ++ a) ++ b) ++ c) ++ d) ++ e ≡ out ++ ((((a ++ b) ++ c) ++ d) ++ e)
+all-joined out a b c d e = simp append_assoc

@@ -12,6 +12,7 @@ use Rattle.serf_judge_json.specs.declared.kind.Kind.TheVariants as kinds
 use Rattle.serf_judge_json.specs.declared.places.LogPlaces.{LogPlaces}
 use Rattle.serf_judge_json.specs.Entries.{bad_text, entries_text, read_text}
 use Rattle.serf_judge_json.specs.Missing.{missed_text}
+use Rattle.serf_judge_json.specs.Runs.{runs_text}
 use Rattle.serf_judge_json.specs.Verdicts.{firings_text, has_both, once_text}
 
 -- for each log but the first, how many lines come before it
@@ -64,4 +65,4 @@ verdicts_text places log found =
 -- everything that is written about a log
 abbrev pub judgement_text : LogPlaces → Log → Findings → List ℕ
 judgement_text places log found =
-    read_text log ++ lines_text places log ++ verdicts_text places log found ++ missed_text log.events.items
+    read_text log ++ lines_text places log ++ verdicts_text places log found ++ missed_text log.events.items ++ runs_text places log.runs.items

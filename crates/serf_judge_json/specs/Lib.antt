@@ -6,4 +6,5 @@ pub mod Members
 pub mod Missing
 pub mod Places
 pub mod Repeats
+pub mod Runs
 pub mod Verdicts

@@ -1,4 +1,4 @@
-//! Appends objects about what the lines of a log say.
+//! Appends JSON objects about the lines of a log.
 
 ghost use Rattle.std.specs.Prelude.{◌≡◌, ◌++◌, ◌∷◌, [], OnOk, codes};
 ghost use Rattle.std.specs.List.{flat_map};
@@ -15,8 +15,8 @@ use serf_json::{write_joined, write_object};
 use serf_judge::{BadLine, Delivered, Delivery, Key, Log, log_nodes};
 use std::alloc::{AllocError, Global};
 
-/// Appends an object of kind `object` about an event: the members in `front`, and then its node, time, name and
-/// payload.
+/// Appends an object of the kind `object` about an event: the members in `front`, followed by the node, and the event's
+/// time, name and payload.
 #[tactic(auto, unfolding(serf_json::specs::Object::members_text))]
 fn write_event<'a>(
     out: &mut Vec<u8>,
@@ -40,7 +40,7 @@ fn write_event<'a>(
     write_joined(out, object, front, &about)
 }
 
-/// The member `id` with a query's ID; absent if the query has none.
+/// Returns the member `id`, which contains a query's ID. If the query has no ID, the member is absent.
 fn id_in<'a>(id: Option<u64>) -> Member<'a>
     ensures { member_text result ≡ id_member id }
 {
@@ -50,8 +50,9 @@ fn id_in<'a>(id: Option<u64>) -> Member<'a>
     }
 }
 
-/// Appends an object of kind `object` about what `key` distinguishes: the members in `front`, its node, its time, and
-/// then its name and payload if it is an event, or its ID if it is a query.
+/// Appends an object of the kind `object` about the event or query of `key`. The object contains the members in
+/// `front`, the node and the time. An object about an event also contains the event's name and payload, and an object
+/// about a query also contains the query's ID.
 #[tactic(auto, unfolding(serf_json::specs::Object::members_text, crate::specs::Entries::about_text))]
 pub(crate) fn write_about(
     alloc: Global,
@@ -80,9 +81,10 @@ pub(crate) fn write_about(
     }
 }
 
-/// Appends an object about a line that fires or hands out something, as `object` says.
+/// Appends an object of the kind `object` about a line on which an event was fired, or an event or a query was handed
+/// out.
 #[tactic(auto, unfolding(serf_json::specs::Object::members_text, crate::specs::Entries::entry_text))]
-fn write_entry(
+pub(crate) fn write_entry(
     alloc: Global,
     out: &mut Vec<u8>,
     finder: &LineFinder,
@@ -102,7 +104,8 @@ fn write_entry(
     write_about(alloc, out, object, &front, kind, &found.key)
 }
 
-/// Appends an object for each of `entries`, which were fired or handed out, as `object` says.
+/// Appends an object of the kind `object` for each entry in `entries`. Each entry is an event or a query that was fired
+/// or handed out.
 pub(crate) fn write_entries<E: Delivered>(
     alloc: Global,
     out: &mut Vec<u8>,
@@ -120,7 +123,7 @@ pub(crate) fn write_entries<E: Delivered>(
     Ok(())
 }
 
-/// Appends an object about a bad line: the members in `front`, and then what is wrong with it.
+/// Appends an object about a bad line: the members in `front`, followed by the reason why the line can't be read.
 #[tactic(auto, unfolding(serf_json::specs::Object::members_text))]
 fn write_cause(out: &mut Vec<u8>, front: &[Member], cause: &[u8]) -> Result<(), AllocError>
     ensures { OnOk result (out.new.items ≡ out.old.items ++ object_text (codes "bad")
@@ -129,7 +132,7 @@ fn write_cause(out: &mut Vec<u8>, front: &[Member], cause: &[u8]) -> Result<(), 
     write_joined(out, b"bad", front, &[Text(b"cause", cause)])
 }
 
-/// Appends an object about a bad line.
+/// Appends an object about the bad line `bad`.
 #[tactic(auto, unfolding(serf_json::specs::Object::members_text, crate::specs::Entries::bad_text))]
 fn write_bad_line(
     alloc: Global,
@@ -150,7 +153,7 @@ fn write_bad_line(
     write_cause(out, &front, text.as_bytes())
 }
 
-/// Appends an object for each bad line.
+/// Appends an object for each bad line in `bad`.
 pub(crate) fn write_bad(
     alloc: Global,
     out: &mut Vec<u8>,
@@ -166,7 +169,7 @@ pub(crate) fn write_bad(
     Ok(())
 }
 
-/// Appends an object with the name of a node.
+/// Appends an object that contains the name of a node.
 #[tactic(auto, unfolding(serf_json::specs::Object::members_text, crate::specs::Entries::node_text))]
 fn write_node(out: &mut Vec<u8>, node: &[u8]) -> Result<(), AllocError>
     ensures { OnOk result (out.new.items ≡ out.old.items ++ node_text node.now) }
@@ -174,7 +177,8 @@ fn write_node(out: &mut Vec<u8>, node: &[u8]) -> Result<(), AllocError>
     write_object(out, b"node", &[Bytes(b"node", node)])
 }
 
-/// Appends how much was read; `nodes` is how many nodes the log names.
+/// Appends an object that contains the numbers of events, queries, firings and bad lines that were read. The object
+/// also contains `nodes`, the number of nodes that the log names.
 #[tactic(auto, unfolding(serf_json::specs::Object::members_text, crate::specs::Entries::counts_text))]
 fn write_counts(out: &mut Vec<u8>, log: &Log, nodes: usize) -> Result<(), AllocError>
     ensures { OnOk result (out.new.items ≡ out.old.items ++ counts_text log.now nodes) }
@@ -189,7 +193,7 @@ fn write_counts(out: &mut Vec<u8>, log: &Log, nodes: usize) -> Result<(), AllocE
     write_object(out, b"read", &members)
 }
 
-/// Appends an object for each of `nodes`.
+/// Appends an object for each node in `nodes`.
 fn write_nodes(out: &mut Vec<u8>, nodes: &[&[u8]]) -> Result<(), AllocError>
     ensures { OnOk result (out.new.items ≡ out.old.items
         ++ flat_map (λ node. node_text node.now) nodes.now) }
@@ -200,7 +204,8 @@ fn write_nodes(out: &mut Vec<u8>, nodes: &[&[u8]]) -> Result<(), AllocError>
     Ok(())
 }
 
-/// Appends how much was read, and an object for each node.
+/// Appends an object that contains the number of entries of each kind that were read, followed by an object for each
+/// node.
 pub(crate) fn write_read(alloc: Global, out: &mut Vec<u8>, log: &Log) -> Result<(), AllocError>
     ensures { OnOk result (out.new.items ≡ out.old.items ++ read_text log.now) }
 {

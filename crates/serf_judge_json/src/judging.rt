@@ -1,4 +1,5 @@
-//! What judging a log finds: what its lines say, the verdict on each promise, and what was handed out again or missed.
+//! Writes the results of judging a log: the contents of the log's lines, the verdict on each promise, the events that
+//! were handed out again or missed, and the handlers that never ended.
 
 ghost use Rattle.std.specs.Prelude.{◌≡◌, ◌++◌, ◌||◌, nat_lt, IfOk, OnOk, IfSome, ◌<◌, length, codes, map};
 ghost use Rattle.std.specs.List.{flat_map};
@@ -15,13 +16,14 @@ use crate::findings::{Findings, find_broken};
 use crate::kind::Kind;
 use crate::missing::write_missed;
 use crate::places::{LineFinder, LogPlaces};
+use crate::runs::write_runs;
 use crate::verdicts::{write_firings, write_once};
 use serf_json::Member::Number;
 use serf_json::write_object;
 use serf_judge::Log;
 use std::alloc::{AllocError, Global};
 
-/// Appends what the lines of a log say.
+/// Appends an object for each firing, event, query and bad line in the log.
 fn write_lines(
     alloc: Global,
     out: &mut Vec<u8>,
@@ -42,7 +44,7 @@ fn write_lines(
     write_bad(alloc, out, finder, log.bad.as_slice())
 }
 
-/// Appends the verdict on each promise. `found` has the entries that break them.
+/// Appends the verdict on each promise. `found` contains the entries that break promises.
 fn write_verdicts(
     alloc: Global,
     out: &mut Vec<u8>,
@@ -60,7 +62,7 @@ fn write_verdicts(
     write_firings(alloc, out, finder, log, found.unfired, found.not_later)
 }
 
-/// Whether a promise is broken, or a line is bad.
+/// Returns whether a promise is broken or a line is bad.
 fn is_broken(log: &Log, found: &Findings) -> bool
     ensures { result ≡ is_broken log.now found.now }
 {
@@ -71,13 +73,13 @@ fn is_broken(log: &Log, found: &Findings) -> bool
         || !log.bad.as_slice().is_empty()
 }
 
-/// Appends what a log says, the verdict on each promise, what was handed out again, and what was missed. Returns
-/// whether a promise is broken or a line is bad. After an `AllocError`, which means that memory ran out, `out` may have
-/// a prefix of this text.
+/// Appends the contents of a log, the verdict on each promise, the events and queries that were handed out again, the
+/// events that some nodes missed, and the lines about handlers. Returns whether a promise is broken or a line is bad.
+/// If memory runs out (`AllocError`), only a prefix of the text may have been appended to `out`.
 ///
-/// The promises are judged by [`serf_judge::first_event_twice`], [`serf_judge::first_query_twice`],
-/// [`serf_judge::first_unfired`] and [`serf_judge::first_not_later`]. The latter two are judged only if the log has
-/// both firings and events.
+/// The function judges the promises by [`serf_judge::first_event_twice`], [`serf_judge::first_query_twice`],
+/// [`serf_judge::first_unfired`] and [`serf_judge::first_not_later`]. The function judges the promises about firings
+/// only if the log contains both firings and events.
 pub fn judgement_objects(
     alloc: Global,
     out: &mut Vec<u8>,
@@ -94,11 +96,12 @@ pub fn judgement_objects(
     write_lines(alloc, out, &finder, log)?;
     write_verdicts(alloc, out, &finder, log, &found)?;
     write_missed(alloc, out, log.events.as_slice())?;
+    write_runs(alloc, out, &finder, log.runs.as_slice())?;
     Ok(is_broken(log, &found))
 }
 
-/// Appends the exit status, the last object about a log. After an `AllocError`, which means that memory ran out, `out`
-/// may have a prefix of the object.
+/// Appends the last object about a log, which contains the exit status. If memory runs out (`AllocError`), only a
+/// prefix of the object may have been appended to `out`.
 #[tactic(auto, unfolding(serf_json::specs::Object::members_text))]
 pub fn status_object(out: &mut Vec<u8>, status: u64) -> Result<(), AllocError>
     ensures { OnOk result (out.new.items ≡ out.old.items ++ status_text status) }

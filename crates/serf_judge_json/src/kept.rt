@@ -1,4 +1,4 @@
-//! What a node can be handed again after a start from its snapshot.
+//! Writes the events and queries that a node can be handed again after a program was started on its snapshot.
 
 ghost use Rattle.std.specs.Prelude.{◌≡◌, ◌++◌, IfOk, OnOk, codes};
 ghost use Rattle.std.specs.Option.{is_some, option_map};
@@ -17,17 +17,18 @@ use serf_judge::{Delivery, Log, Offered, Reader, first_again, serf_clocks};
 use serf_snapshot::{Clocks, read_clocks};
 use std::alloc::{AllocError, Global};
 
-/// A node's snapshot, and the program that starts from it.
+/// A node's snapshot, and the program that is started on it.
 #[derive(Clone, Copy)]
 struct Kept<'a> {
     node: &'a [u8],
     snapshot: &'a [u8],
     reader: Reader,
-    /// Whether the snapshot has a line `leave`, so that it matters whether Serf is started with `-rejoin`.
+    /// Whether the snapshot contains a line `leave`. If the snapshot contains no line `leave`, it makes no difference
+    /// whether Serf is started with `-rejoin`.
     has_left: bool,
 }
 
-/// The clocks that `reader` restores from a snapshot.
+/// Returns the clocks that `reader` restores from a snapshot.
 fn restored_clocks(reader: Reader, snapshot: &[u8]) -> Clocks
     ensures event { result.event_clock ≡ restored_clock Event reader snapshot.now }
     ensures query { result.query_clock ≡ restored_clock Query reader snapshot.now }
@@ -38,7 +39,7 @@ fn restored_clocks(reader: Reader, snapshot: &[u8]) -> Clocks
     }
 }
 
-/// The word for what is started on a snapshot.
+/// Returns the word for the program that is started on a snapshot.
 fn reader_word(reader: Reader) -> &'static [u8]
     ensures { result.now ≡ reader_word reader }
 {
@@ -49,7 +50,8 @@ fn reader_word(reader: Reader) -> &'static [u8]
     }
 }
 
-/// The member that says whether Serf is started with `-rejoin`; absent if this doesn't matter.
+/// Returns the member `rejoin`, which is true if Serf is started with `-rejoin`. The member is absent if `-rejoin`
+/// makes no difference.
 fn rejoin_in<'a>(reader: Reader, has_left: bool) -> Member<'a>
     ensures { member_text result ≡ rejoin_member reader has_left }
 {
@@ -59,7 +61,7 @@ fn rejoin_in<'a>(reader: Reader, has_left: bool) -> Member<'a>
     }
 }
 
-/// The first of `entries` that can be handed to the node again.
+/// Returns the first entry in `entries` that can be handed to the node again.
 fn find_again<'a, E: Offered>(
     alloc: Global,
     kept: &Kept,
@@ -78,7 +80,7 @@ fn find_again<'a, E: Offered>(
     }
 }
 
-/// Appends an object with the members in `front`, which says that `found` can be handed out again.
+/// Appends an object that contains the members in `front`, and reports that `found` can be handed out again.
 #[tactic(auto, unfolding(serf_json::specs::Object::members_text))]
 fn write_again(
     out: &mut Vec<u8>,
@@ -101,8 +103,9 @@ fn write_again(
     write_joined(out, b"kept", front, &about)
 }
 
-/// Appends whether something can be handed to the node again, and the first line that can, `found`. `clock` is the
-/// clock that is restored.
+/// Appends an object that reports whether an entry of the kind `kind` can be handed to the node again. If there are
+/// entries that can be handed to the node again, `found` is the line of the first one. `clock` is the clock that is
+/// restored.
 #[tactic(auto, unfolding(serf_json::specs::Object::members_text, crate::specs::Kept::kept_text))]
 fn write_kept(
     out: &mut Vec<u8>,
@@ -129,8 +132,9 @@ fn write_kept(
     }
 }
 
-/// Appends whether one of `entries` can be handed to the node again, and the first of those that can. `clock` is the
-/// clock that is restored. Returns whether there is one. Appends nothing if there are no entries.
+/// Appends an object that reports whether an entry in `entries` can be handed to the node again. If several entries can
+/// be handed to the node again, the object describes the first one. `clock` is the clock that is restored. Returns
+/// whether an entry can be handed to the node again. If `entries` is empty, appends nothing.
 fn write_kind<E: Offered>(
     alloc: Global,
     out: &mut Vec<u8>,
@@ -155,10 +159,10 @@ fn write_kind<E: Offered>(
     Ok(found.is_some())
 }
 
-/// Appends what `reader` can hand to `node` again after a start from `snapshot`: an object for events and one for
-/// queries, each only if the log has some. `has_left` says whether the snapshot has a line `leave`. Returns whether
-/// something can be handed out again. After an `AllocError`, which means that memory ran out, `out` may have a prefix
-/// of the objects.
+/// Appends an object about the events that `reader` can hand to `node` again after `reader` was started on `snapshot`,
+/// and an object about the queries. If the log contains no entries of a kind, the object of that kind is left out. If
+/// `has_left` is true, the snapshot contains a line `leave`. Returns whether an event or a query can be handed out
+/// again. If memory runs out (`AllocError`), only a prefix of the objects may have been appended to `out`.
 pub fn kept_objects(
     alloc: Global,
     out: &mut Vec<u8>,

@@ -1,9 +1,9 @@
-//! What is judged: events, or queries.
+//! The two kinds of entries that are judged: events and queries.
 
 ghost use Rattle.std.specs.Prelude.{◌≡◌};
 ghost use Rattle.serf_judge_json.specs.Kinds.{kind_word, once_promise};
 
-/// Events or queries.
+/// The kind of an entry.
 #[derive(Clone, Copy)]
 pub(crate) enum Kind {
     Event,
@@ -11,7 +11,7 @@ pub(crate) enum Kind {
 }
 
 impl Kind {
-    /// The word for this kind in objects.
+    /// Returns the word that objects contain for this kind.
     pub(crate) fn word(self) -> &'static [u8]
         ensures { result.now ≡ kind_word self }
     {
@@ -21,7 +21,7 @@ impl Kind {
         }
     }
 
-    /// The promise that nothing of this kind is handed out twice.
+    /// Returns the name of the promise that no entry of this kind is handed out twice.
     pub(crate) fn promise(self) -> &'static [u8]
         ensures { result.now ≡ once_promise self }
     {

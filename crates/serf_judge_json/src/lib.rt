@@ -1,5 +1,5 @@
-//! Results as data for other programs: objects of JSON, one a line, with the names and payloads of events as text and in
-//! hex.
+//! Writes results as data for other programs, with one JSON object per line. The names and payloads of events appear
+//! both as text and in hex.
 #![tactic(auto)]
 
 mod entries;
@@ -10,6 +10,7 @@ mod kind;
 mod missing;
 mod places;
 mod repeats;
+mod runs;
 mod verdicts;
 mod words;
 

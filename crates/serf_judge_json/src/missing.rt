@@ -1,4 +1,4 @@
-//! Appends objects about events that some node was never handed.
+//! Appends JSON objects about events that some node was never handed.
 
 ghost use Rattle.std.specs.Prelude.{◌≡◌, ◌++◌, OnOk};
 ghost use Rattle.serf_judge.specs.Missed.{missing_view};
@@ -9,7 +9,7 @@ use crate::kind::Kind;
 use serf_judge::{EventEntry, Key, MissedEvent, missed_events, receivers};
 use std::alloc::{AllocError, Global};
 
-/// Appends an object about an event and a node that was never handed it.
+/// Appends an object which reports that a node was never handed an event.
 #[tactic(auto, unfolding(serf_json::specs::Object::members_text))]
 fn write_missing(
     alloc: Global,
@@ -30,7 +30,7 @@ fn write_missing(
     write_about(alloc, out, b"missed", &[], Kind::Event, &key)
 }
 
-/// Appends an object for each node that was never handed an event.
+/// For one event, appends an object for each node that was never handed the event.
 fn write_missing_nodes(
     alloc: Global,
     out: &mut Vec<u8>,
@@ -45,8 +45,8 @@ fn write_missing_nodes(
     Ok(())
 }
 
-/// Appends an object for each event and each node that was never handed it, among the nodes that were handed some
-/// event.
+/// Appends an object for each pair of an event and a node that was never handed the event. Only nodes that were handed
+/// at least one event are listed.
 pub(crate) fn write_missed(
     alloc: Global,
     out: &mut Vec<u8>,

@@ -1,4 +1,5 @@
-//! The places of the lines of logs: the name of the log, the number of the line in it, and its date.
+//! When several logs are judged together, finds the place of a line: the name of the log, the line's number in that
+//! log, and the line's date.
 
 ghost use Rattle.std.specs.Prelude.{◌≡◌, ◌==◌, ◌↔◌, IsTrue, find};
 ghost use Rattle.std.specs.Option.{option_copied};
@@ -12,31 +13,31 @@ use serf_judge::DatedLine;
 #[derive(Drop)]
 pub struct LogName {
     pub name: Vec<u8>,
-    /// How many lines the logs before it have together.
+    /// The total number of lines in the logs before this log.
     pub before: u64,
 }
 
-/// The logs that are judged together, in order, and the dates of their lines. If a line has several dates, the first of
-/// them is used.
+/// The logs that are judged together, in order, and the dates of their lines. If a line has several dates, only the
+/// first date is used.
 #[derive(Clone, Copy)]
 pub struct LogPlaces<'a> {
     pub logs: &'a [LogName],
     pub dates: &'a [DatedLine],
 }
 
-/// Where a line is.
+/// The place of a line.
 #[derive(Clone, Copy)]
 pub(crate) struct LinePlace<'a> {
     /// The name of the log that contains the line.
     pub(crate) log: &'a [u8],
-    /// The number of the line in this log, counted from 1.
+    /// The number of the line in that log, counted from 1.
     pub(crate) line: u64,
-    /// The line's date; empty if it has none.
+    /// The line's date, which is empty if the line has none.
     date: &'a [u8],
 }
 
 impl<'a> LinePlace<'a> {
-    /// The member `name` with the line's date; absent if the line has none.
+    /// Returns the member `name`, which contains the line's date. If the line has no date, the member is absent.
     pub(crate) fn date_member(&self, name: &'a [u8]) -> Member<'a>
         ensures { member_text result ≡ date_member name.entry.now self.now.date.now }
     {
@@ -48,14 +49,14 @@ impl<'a> LinePlace<'a> {
     }
 }
 
-/// Whether `dates` are in the order of their lines.
+/// Returns whether `dates` are in the order of their lines.
 fn is_in_order(dates: &[DatedLine]) -> bool
     ensures { IsTrue result ↔ AreInOrder dates.now }
 {
     dates.is_sorted_by(|one, next| one.line <= next.line)
 }
 
-/// The first of `dates`, which are in the order of their lines, that is the date of line `line`.
+/// Returns the first date in `dates` for line number `line`. The dates are in the order of their lines.
 fn dated_in_order<'a>(dates: &'a [DatedLine], line: u64) -> Option<&'a DatedLine>
     requires { AreInOrder dates.now }
     ensures { option_copied result ≡ find (λ dated. dated.line == line) dates.entry.now }
@@ -67,18 +68,19 @@ fn dated_in_order<'a>(dates: &'a [DatedLine], line: u64) -> Option<&'a DatedLine
     }
 }
 
-/// The first of `dates`, in any order, that is the date of line `line`.
+/// Returns the first date in `dates` for line number `line`. The dates may be in any order.
 fn dated_anywhere<'a>(dates: &'a [DatedLine], line: u64) -> Option<&'a DatedLine>
     ensures { option_copied result ≡ find (λ dated. dated.line == line) dates.entry.now }
 {
     dates.iter().find(|dated| dated.line == line)
 }
 
-/// Finds where lines are.
+/// Finds the places of lines.
 #[derive(Clone, Copy)]
 pub(crate) struct LineFinder<'a> {
     places: LogPlaces<'a>,
-    /// Whether the dates are in the order of their lines, so that one is found without inspecting each of them.
+    /// Whether the dates are in the order of their lines. If the dates are in this order, the date of a line is found
+    /// without inspecting every date.
     is_ordered: bool,
     ghost ordered: { IsTrue is_ordered → AreInOrder places.dates.now },
 }
@@ -93,7 +95,7 @@ impl<'a> LineFinder<'a> {
         }
     }
 
-    /// The date of a line, which is empty if the line has none.
+    /// Returns the date of a line, which is empty if the line has none.
     fn date(&self, line: u64) -> &'a [u8]
         ensures { result.now ≡ date_of self.now.places line }
     {
@@ -108,14 +110,14 @@ impl<'a> LineFinder<'a> {
         }
     }
 
-    /// The last log that begins before `line`, which is counted from 1 over all logs.
+    /// Returns the last log that begins before line number `line`. Lines are counted from 1 across all logs.
     fn log(&self, line: u64) -> Option<&'a LogName>
         ensures { option_copied result ≡ log_of self.now.places line }
     {
         self.places.logs.iter().rev().find(|log| log.before < line)
     }
 
-    /// Where a line is that is counted from 1 over all logs.
+    /// Returns the place of line number `line`. Lines are counted from 1 across all logs.
     pub(crate) fn place(&self, line: u64) -> LinePlace<'a>
         ensures log { result.log.now ≡ log_name self.now.places line }
         ensures line { result.line ≡ line_in_log self.now.places line }

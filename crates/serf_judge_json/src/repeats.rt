@@ -1,4 +1,4 @@
-//! Appends objects about what nodes were handed again.
+//! Appends JSON objects about events and queries that nodes were handed again.
 
 ghost use Rattle.std.specs.Prelude.{◌≡◌, ◌++◌, ◌∷◌, [], ℕ, List, OnOk, map};
 ghost use Rattle.std.specs.List.{flat_map};
@@ -14,7 +14,7 @@ use serf_json::write_joined;
 use serf_judge::{Delivered, Delivery, Key, Tally, tally_repeats};
 use std::alloc::{AllocError, Global};
 
-/// Appends an object about a line that hands a node what line `first` handed to it.
+/// Appends an object about the line `late`, which hands a node the same event or query as the earlier line `first`.
 #[tactic(auto, unfolding(serf_json::specs::Object::members_text, crate::specs::Repeats::repeat_text))]
 fn write_repeat(
     alloc: Global,
@@ -40,8 +40,8 @@ fn write_repeat(
     write_about(alloc, out, b"repeat", &front, kind, &late.key)
 }
 
-/// Appends an object about `late` if `firsts` has the line that first handed the node the same. Otherwise records in
-/// `firsts` that this is `late`, and appends nothing.
+/// If `firsts` contains an earlier line that handed the same event or query to the same node, appends an object about
+/// `late`. Otherwise, records the line of `late` in `firsts`, and appends nothing.
 fn write_if_again<'a>(
     alloc: Global,
     out: &mut Vec<u8>,
@@ -65,8 +65,8 @@ fn write_if_again<'a>(
     }
 }
 
-/// Appends an object for each of `entries` that hands a node what an earlier one handed to it, with the first line that
-/// did.
+/// Appends an object for each entry in `entries` that repeats an earlier entry, that is, hands the same event or query
+/// to the same node. The object also contains the first line that handed the event or query to the node.
 pub(crate) fn write_repeats<E: Delivered>(
     alloc: Global,
     out: &mut Vec<u8>,
@@ -84,7 +84,8 @@ pub(crate) fn write_repeats<E: Delivered>(
     Ok(())
 }
 
-/// Appends how often, and when, something of this kind was handed to a node again.
+/// Appends an object that contains the number, the times and the lines of the events or queries that a node was handed
+/// again.
 #[tactic(auto, unfolding(serf_json::specs::Object::members_text, crate::specs::Repeats::tally_text))]
 fn write_tally<'a>(
     out: &mut Vec<u8>,
@@ -118,7 +119,7 @@ fn write_tally<'a>(
     write_joined(out, b"tally", &about, &lines)
 }
 
-/// Appends an object for each node that was handed something again.
+/// Appends an object for each node that was handed an event or a query again.
 pub(crate) fn write_tallies<E: Delivered>(
     alloc: Global,
     out: &mut Vec<u8>,

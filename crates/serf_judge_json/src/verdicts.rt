@@ -1,4 +1,4 @@
-//! Appends objects with the verdicts on the promises.
+//! Appends JSON objects with the verdicts on the promises.
 
 ghost use Rattle.std.specs.Prelude.{◌≡◌, ◌++◌, ◌<◌, OnOk, IfSome, codes, length, map};
 ghost use Rattle.serf_json.specs.Object.{member_text, members_text};
@@ -14,7 +14,8 @@ use serf_json::write_object;
 use serf_judge::{Delivered, Delivery, EventEntry, Log};
 use std::alloc::{AllocError, Global};
 
-/// Appends the verdict on a promise that the log can't break, or doesn't, with the member `member`.
+/// Appends the verdict on a promise that the log keeps, or that can't be judged from this log. The last member of the
+/// object is `member`.
 #[tactic(auto, unfolding(serf_json::specs::Object::members_text, crate::specs::Verdicts::verdict_text))]
 fn write_verdict(
     out: &mut Vec<u8>,
@@ -29,7 +30,7 @@ fn write_verdict(
     write_object(out, b"verdict", &[promise, verdict, member])
 }
 
-/// Appends an object that says that line `late` breaks a promise.
+/// Appends an object which reports that the line `late` breaks a promise.
 #[tactic(auto, unfolding(serf_json::specs::Object::members_text, crate::specs::Verdicts::broken_text))]
 fn write_broken<'a>(
     alloc: Global,
@@ -53,7 +54,7 @@ fn write_broken<'a>(
     write_about(alloc, out, b"verdict", &front, kind, &late.key)
 }
 
-/// Appends an object that says that line `late` breaks a promise, and names the line `early` that it breaks it with.
+/// Appends an object which reports that the line `late`, together with the earlier line `early`, breaks a promise.
 #[tactic(auto, unfolding(serf_json::specs::Object::members_text, crate::specs::Verdicts::broken_with_text))]
 fn write_broken_with<'a>(
     alloc: Global,
@@ -82,7 +83,7 @@ fn write_broken_with<'a>(
     write_about(alloc, out, b"verdict", &front, kind, &late.key)
 }
 
-/// The line of the entry at the index `place`, counted from 0.
+/// Returns the line and the key of the entry at the index `place`, counted from 0.
 fn delivery_at<E: Delivered>(entries: &[E], place: usize) -> Delivery<'_>
     requires { place < length entries.now }
     ensures { handed_seen result ≡ line_at (map E.seen entries.now) place }
@@ -90,8 +91,9 @@ fn delivery_at<E: Delivered>(entries: &[E], place: usize) -> Delivery<'_>
     entries[place].handed()
 }
 
-/// Appends the verdict on the promise that nothing is handed out twice, and whatever was. `twice` has the indexes of
-/// the first two entries that are the same.
+/// Appends the verdict on the promise that no event or query is handed to a node twice. If the promise is broken, also
+/// appends the entries that were handed out again. `twice` contains the indexes of the first two entries that are the
+/// same.
 pub(crate) fn write_once<E: Delivered>(
     alloc: Global,
     out: &mut Vec<u8>,
@@ -122,8 +124,8 @@ pub(crate) fn write_once<E: Delivered>(
     }
 }
 
-/// Appends the verdict on the promise that each event was fired before it was handed out. `unfired` is the index of
-/// the first one that wasn't.
+/// Appends the verdict on the promise that each event was fired before it was handed out. `unfired` is the index of the
+/// first event without an earlier firing.
 fn write_fired(
     alloc: Global,
     out: &mut Vec<u8>,
@@ -144,8 +146,9 @@ fn write_fired(
     }
 }
 
-/// Appends the verdict on the promise that each node fires later than what it was handed. `not_later` has the index of
-/// the first firing that isn't, and the index of an event for which it isn't.
+/// Appends the verdict on the promise that each node fires only at later times than those of the events that the node
+/// was handed before. `not_later` contains the index of the first firing that breaks the promise, and the index of an
+/// event whose time that firing doesn't exceed.
 fn write_later(
     alloc: Global,
     out: &mut Vec<u8>,
@@ -168,14 +171,15 @@ fn write_later(
     }
 }
 
-/// Whether a log has both firings and events, so that the promises about firings can be judged.
+/// Returns whether a log contains both firings and events. If a log lacks firings or events, the promises about firings
+/// can't be judged.
 pub(crate) fn has_both(log: &Log) -> bool
     ensures { result ≡ has_both log.now }
 {
     !log.fired.as_slice().is_empty() && !log.events.as_slice().is_empty()
 }
 
-/// The kind of line that a log lacks if it doesn't have both firings and events.
+/// If a log doesn't contain both firings and events, returns the kind of line that is missing.
 fn lacking(log: &Log) -> &'static [u8]
     ensures { result.now ≡ lacking log.now }
 {
@@ -186,8 +190,8 @@ fn lacking(log: &Log) -> &'static [u8]
     }
 }
 
-/// Appends that the promises about firings were not judged.
-fn write_unasked(out: &mut Vec<u8>, log: &Log) -> Result<(), AllocError>
+/// Appends objects which report that the promises about firings were not judged.
+fn write_not_judged(out: &mut Vec<u8>, log: &Log) -> Result<(), AllocError>
     ensures { OnOk result (out.new.items ≡ out.old.items
         ++ (unasked_text (codes "Fired") (lacking log.now)
         ++ unasked_text (codes "Later") (lacking log.now))) }
@@ -197,8 +201,8 @@ fn write_unasked(out: &mut Vec<u8>, log: &Log) -> Result<(), AllocError>
     write_verdict(out, b"Later", b"not-asked", lines)
 }
 
-/// Appends the verdicts on the promises about firings: `unfired` and `not_later` have the indexes of the entries that
-/// break them.
+/// Appends the verdicts on the promises about firings. `unfired` and `not_later` contain the indexes of the entries
+/// that break the promises.
 pub(crate) fn write_firings(
     alloc: Global,
     out: &mut Vec<u8>,
@@ -214,7 +218,7 @@ pub(crate) fn write_firings(
         ++ firings_text finder.now.places log.now unfired not_later) }
 {
     if !has_both(log) {
-        return write_unasked(out, log);
+        return write_not_judged(out, log);
     }
     let (fired, events) = (log.fired.as_slice(), log.events.as_slice());
     write_fired(alloc, out, finder, events, unfired)?;

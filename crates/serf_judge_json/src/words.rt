@@ -1,4 +1,4 @@
-//! The texts that the words of a log encode.
+//! Decodes the words in a log.
 
 ghost use Rattle.std.specs.Prelude.{◌≡◌, IfOk};
 ghost use Rattle.serf_judge.specs.HandedAgain.{unescaped};
@@ -6,8 +6,8 @@ ghost use Rattle.serf_judge.specs.HandedAgain.{unescaped};
 use percent_encoding::percent_decode;
 use std::alloc::{AllocError, Global};
 
-/// The text that a word of a handler's log encodes: `%` and two hex digits are a byte, and a single `-` is an empty
-/// text.
+/// Returns the text that a word in a handler's log encodes: `%` and two hex digits encode one byte, and a single `-`
+/// encodes the empty text.
 pub(crate) fn unescaped(alloc: Global, word: &[u8]) -> Result<Vec<u8>, AllocError>
     ensures { IfOk result (λ text. text.items ≡ unescaped word.now) }
 {

@@ -1,4 +1,4 @@
-//! A Lamport clock: it draws times, and stays later than every time that it observes.
+//! A Lamport clock draws times, and stays later than every time that it observes.
 
 ghost use Rattle.std.specs.Prelude.{◌≡◌, ◌<◌, ◌+◌, ◌↔◌, IfOk, OnOk, OnErr, IsErr};
 ghost use Rattle.serf_lamport.specs.Clock.{max_clock, observed, observed_before};
@@ -9,7 +9,7 @@ use thiserror::Error;
 
 /// A Lamport clock: a number up to 2^64 - 1, which never falls.
 ///
-/// Contracts see a clock as this number, which is also the time that it draws next.
+/// Contracts see a clock as this number, which is also the next time that the clock draws.
 #[derive(Clone, Copy, Debug, PartialEq, Eq)]
 pub struct Clock {
     value: u64,
@@ -25,22 +25,22 @@ impl Model for Clock {
     ghost inverse = { λ n. record { value = n } };
 }
 
-/// The clock has reached 2^64 - 1, which isn't a valid time, so it can't draw another one.
+/// The clock has reached 2^64 - 1. This isn't a valid time, so the clock can't draw another one.
 #[derive(Clone, Copy, Debug, PartialEq, Eq, Error)]
 #[error("the clock is exhausted")]
 pub struct Exhausted;
 
 impl Clock {
-    /// A new clock, whose first drawn time is 1. Serf's clocks also return 1 at their first increment.
-    /// Allocates no memory.
+    /// Returns a new clock, whose first drawn time is 1. A new clock of Serf also returns 1 at its first
+    /// increment. Allocates no memory.
     pub fn new() -> Clock
         ensures { result ≡ 1 }
     {
         Clock { value: 1 }
     }
 
-    /// The clock's number: the time that it draws next, or 2^64 - 1 if the clock is exhausted. Allocates no
-    /// memory.
+    /// Returns the clock's number. This is the next time that the clock draws, or 2^64 - 1 if the clock is
+    /// exhausted. Allocates no memory.
     pub fn time(&self) -> u64
         ensures { result ≡ self.now }
     {
@@ -49,7 +49,7 @@ impl Clock {
     }
 
     /// Makes the clock later than `time` (`LamportClock.Witness`). If `time` is below the clock, the clock
-    /// stays as it is. Otherwise it becomes `time` plus one. Allocates no memory.
+    /// doesn't change. Otherwise it becomes `time` plus one. Allocates no memory.
     pub fn observe(&mut self, time: Time)
         ensures { self.new ≡ observed self.old time }
     {
@@ -59,7 +59,7 @@ impl Clock {
     }
 
     /// Observes the time just before `value`, or nothing if `value` is 0. A push/pull reports a peer's clock
-    /// in this form (`delegate.go`, `MergeRemoteState`). Allocates no memory.
+    /// in the form of `value` (`delegate.go`, `MergeRemoteState`). Allocates no memory.
     pub fn observe_before(&mut self, value: u64)
         ensures { self.new ≡ observed_before self.old value }
     {
@@ -68,8 +68,8 @@ impl Clock {
         }
     }
 
-    /// Returns the clock's number as the next time, and advances the clock by one. At 2^64 - 1 it returns
-    /// `Exhausted` and leaves the clock unchanged. Allocates no memory.
+    /// Returns the clock's number as the next time, and advances the clock by one. If the number is 2^64 - 1,
+    /// the call returns `Exhausted` and leaves the clock unchanged. Allocates no memory.
     pub fn draw(&mut self) -> Result<Time, Exhausted>
         ensures exhausted { IsErr result ↔ (self.old ≡ max_clock) }
         ensures time { IfOk result (λ t. t ≡ self.old) }

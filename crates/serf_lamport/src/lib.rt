@@ -1,8 +1,8 @@
 //! Lamport clocks: the times of user events and queries, and the counters that draw these times.
 //!
-//! A clock is a number. It observes the times that other nodes send, so that it is later than each of them,
-//! and it draws the times of events and queries that are fired here (Serf's internals page, "Lamport Clocks";
-//! `lamport.go`).
+//! A clock is a number. It observes the times that other nodes send, and stays later than each of them. It
+//! also draws the times of the events and queries that this node fires (Serf's internals page, "Lamport
+//! Clocks"; `lamport.go`).
 #![tactic(auto)]
 
 mod clock;

@@ -1,4 +1,4 @@
-//! A Lamport time, as clocks draw it and messages carry it.
+//! A Lamport time, which a clock draws and messages carry.
 
 ghost use Rattle.std.specs.Prelude.{◌≡◌, ◌<◌};
 ghost use Rattle.std.specs.Option.{SomeIff};
@@ -28,7 +28,7 @@ impl Model for Time {
 }
 
 impl Time {
-    /// The time with the number `value`, or `None` if `value` is 2^64 - 1. Allocates no memory.
+    /// Returns the time with the number `value`, or `None` if `value` is 2^64 - 1. Allocates no memory.
     pub fn new(value: u64) -> Option<Time>
         ensures { SomeIff result (value < max_clock) value }
     {
@@ -38,7 +38,7 @@ impl Time {
         Some(Time { value })
     }
 
-    /// The number of this time. Allocates no memory.
+    /// Returns the number of this time. Allocates no memory.
     pub fn get(self) -> u64
         ensures value { result ≡ self }
         ensures time { result < max_clock }

@@ -47,17 +47,17 @@ life-push a turns turn = fold-append (lived_on a) [] turns (turn ∷ [])
 life-on : (a : ℕ) (turns : List Turn) (turn : Turn) → reopens a turn ≡ false → present_life a (turns ++ turn ∷ []) ≡ present_life a turns ++ turn ∷ []
 life-on a turns turn goes = life-push a turns turn ∙ ap (λ b. cond b [] (present_life a turns ++ turn ∷ [])) goes
 
-life-new : (a : ℕ) (turns : List Turn) (turn : Turn) → reopens a turn ≡ true → present_life a (turns ++ turn ∷ []) ≡ []
+pub life-new : (a : ℕ) (turns : List Turn) (turn : Turn) → reopens a turn ≡ true → present_life a (turns ++ turn ∷ []) ≡ []
 life-new a turns turn anew = life-push a turns turn ∙ ap (λ b. cond b [] (present_life a turns ++ turn ∷ [])) anew
 
 abbrev entered : Turn → List (TimedEntry ℕ)
 entered t = entered_by t.action t.given t.line.answer
 
 -- the events that a turn hands to an agent
-abbrev handed : ℕ → Turn → List (TimedEntry EventBody)
+abbrev pub handed : ℕ → Turn → List (TimedEntry EventBody)
 handed a turn = map event_in (filter (λ e. e.agent == a) turn.line.events)
 
-events-on : (a : ℕ) (turns : List Turn) (turn : Turn) → reopens a turn ≡ false → events_of_life a (turns ++ turn ∷ []) ≡ events_of_life a turns ++ handed a turn
+pub events-on : (a : ℕ) (turns : List Turn) (turn : Turn) → reopens a turn ≡ false → events_of_life a (turns ++ turn ∷ []) ≡ events_of_life a turns ++ handed a turn
 events-on a turns turn goes = ap (events_to a) (life-on a turns turn goes) ∙ events_to-push a (present_life a turns) turn
 
 queries-on : (a : ℕ) (turns : List Turn) (turn : Turn) → reopens a turn ≡ false → queries_of_life a (turns ++ turn ∷ []) ≡ queries_of_life a turns ++ added entered a turn
@@ -66,29 +66,29 @@ queries-on a turns turn goes = ap (queries_at a) (life-on a turns turn goes) ∙
 -- ---- what is true of the agent of a number
 
 -- what an agent entered in its present life
-abbrev life_events : Option IdealNode → List (TimedEntry EventBody)
+abbrev pub life_events : Option IdealNode → List (TimedEntry EventBody)
 life_events None = []
 life_events (Some m) = of_life m.agent.life m.agent.events.history
 
-abbrev life_queries : Option IdealNode → List (TimedEntry ℕ)
+abbrev pub life_queries : Option IdealNode → List (TimedEntry ℕ)
 life_queries None = []
 life_queries (Some m) = of_life m.agent.life m.agent.queries.history
 
-abbrev per_time : Option IdealNode → ℕ
+abbrev pub per_time : Option IdealNode → ℕ
 per_time None = 0
 per_time (Some m) = m.agent.config.per_time
 
 -- What an agent entered in a track during its present life begins with what was restored as the life began, if anything
 -- was, and continues with `entered`. At most k of these entries have the same time.
-record IsLivedIn {K : Type 0} (k : ℕ) (all entered : List (TimedEntry K)) : Type 0 where
-  taken : List (TimedEntry K)
-  ends : all ≡ taken ++ entered
-  few : AtMostOfOneTime k all
+pub record IsLivedIn {K : Type 0} (k : ℕ) (all entered : List (TimedEntry K)) : Type 0 where
+  pub taken : List (TimedEntry K)
+  pub ends : all ≡ taken ++ entered
+  pub few : AtMostOfOneTime k all
 
-record IsLivedAt (configs : List Config) (turns : List Turn) (a : ℕ) (r : Option IdealNode) : Type 0 where
-  config : option_map (λ m. m.agent.config) r ≡ slice_get configs a
-  events : IsLivedIn (per_time r) (life_events r) (events_of_life a turns)
-  queries : IsLivedIn (per_time r) (life_queries r) (queries_of_life a turns)
+pub record IsLivedAt (configs : List Config) (turns : List Turn) (a : ℕ) (r : Option IdealNode) : Type 0 where
+  pub config : option_map (λ m. m.agent.config) r ≡ slice_get configs a
+  pub events : IsLivedIn (per_time r) (life_events r) (events_of_life a turns)
+  pub queries : IsLivedIn (per_time r) (life_queries r) (queries_of_life a turns)
 
 few-in : {K : Type 0} (life life' k k' : ℕ) (h : List (Past K)) → life' ≡ life → k' ≡ k → AtMostOfOneTime k (of_life life h) → AtMostOfOneTime k' (of_life life' h)
 few-in life life' k k' h same per few = subst (λ (n : ℕ). AtMostOfOneTime n (of_life life' h)) (sym per) (subst (λ (l : ℕ). AtMostOfOneTime k (of_life l h)) (sym same) few)
@@ -143,10 +143,10 @@ lived-anew configs turns turn a m n h anew config events queries = record {
 
 -- ---- a step
 
-abbrev IsLived : List Config → Cluster → List Turn → Type 0
+abbrev pub IsLived : List Config → Cluster → List Turn → Type 0
 IsLived configs c turns = (a : ℕ) → IsLivedAt configs turns a (slice_get c.nodes a)
 
-and-false : (b : Bool) → (b && false) ≡ false
+pub and-false : (b : Bool) → (b && false) ≡ false
 and-false true = refl
 and-false false = refl
 
@@ -219,7 +219,7 @@ lived-applied lower configs c turns b act m is h at a = by (b == a) refl
         (lines-other a b o.done.events t)
         (ap (λ x. cond x (entered turn) []) t))
 
-lived-step : Below → (configs : List Config) (r : Run) (action : Action) → IsAfter configs r.cluster r.turns → IsLived configs r.cluster r.turns → IsLived configs (after r action).cluster (after r action).turns
+pub lived-step : Below → (configs : List Config) (r : Run) (action : Action) → IsAfter configs r.cluster r.turns → IsLived configs r.cluster r.turns → IsLived configs (after r action).cluster (after r action).turns
 lived-step lower configs r action is h =
     step-cases (λ s. IsLived configs s.cluster (r.turns ++ s.turn ∷ [])) r.cluster action (λ bytes. lived-still configs r.cluster r.turns (injects r.cluster bytes) h refl refl refl refl)
     (λ b act at. lived-still configs r.cluster r.turns (on_agent r.cluster b act None) h refl refl refl refl) (λ b act m of at. lived-applied lower configs r.cluster r.turns b act m is h at)
@@ -231,7 +231,7 @@ first_node-at [] a = refl
 first_node-at (c ∷ cs) zero = refl
 first_node-at (c ∷ cs) (suc a) = first_node-at cs a
 
-lived-start : (configs : List Config) → IsLived configs (start configs).cluster []
+pub lived-start : (configs : List Config) → IsLived configs (start configs).cluster []
 lived-start configs a = subst (IsLivedAt configs [] a) (sym (first_node-at configs a)) (by (slice_get configs a) refl)
   where
     by : (r : Option Config) → slice_get configs a ≡ r → IsLivedAt configs [] a (option_map first_node r)

@@ -46,7 +46,7 @@ told-low i e q act r low = let up = told-up e q act r in (omega (arith, low.0, u
 -- ---- what an answer shows
 
 -- whether an answer contains a clock
-abbrev says_clock : Answer → Bool
+abbrev pub says_clock : Answer → Bool
 says_clock (lines.Restarted member_clock event_clock query_clock) = true
 says_clock (lines.Fired t) = true
 says_clock (lines.Queried t) = true
@@ -96,7 +96,7 @@ read-low i number now e q (Ok (foreign kind)) low = low
 read-low i number now e q (Err error) low = low
 
 -- the answer to a delivery contains no clock
-receive-silent : (packet : List ℕ) (x : Result Outcome ReceiveError) → says_clock (receive_gives packet x).answer ≡ false
+pub receive-silent : (packet : List ℕ) (x : Result Outcome ReceiveError) → says_clock (receive_gives packet x).answer ≡ false
 receive-silent packet (Ok (outcomes.Event out)) = refl
 receive-silent packet (Ok (outcomes.Query handed ack rebroadcast)) = refl
 receive-silent packet (Ok outcomes.Ack) = refl
@@ -194,7 +194,7 @@ query_fired-low i action given tags now e q x None low =
     kept-or-failed (λ o. AreShown o.agent e q action given (query_gives o.answer).answer) i (query_fired_as tags None i now x) (omega (arith, low.0, up.0), omega (arith, low.1))
     (λ d. stays i e q action given (lines.Refused refusals.SinkError) low refl)
 
-state-silent : (r : Result (List ℕ) PushPullError) → says_clock (state_gives r).answer ≡ false
+pub state-silent : (r : Result (List ℕ) PushPullError) → says_clock (state_gives r).answer ≡ false
 state-silent (Ok packet) = refl
 state-silent (Err error) = refl
 

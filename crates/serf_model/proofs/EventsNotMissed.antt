@@ -49,7 +49,7 @@ full-comes g handed outs full = inr (full-wider g.config.per_time g.event.time h
     wider e (inl h) = inl (Contains-append_left handed (map out_in outs) e h)
     wider e (inr h) = inr h
 
-decide : (x e : TimedEntry EventBody) → (x ≡ e) ⊎ (x ≢ e)
+pub decide : (x e : TimedEntry EventBody) → (x ≡ e) ⊎ (x ≢ e)
 decide x e = by ((x.time == e.time) && same_texts x.key e.key) refl
   where
     itself : same_texts x.key x.key ≡ true
@@ -69,7 +69,7 @@ decide x e = by ((x.time == e.time) && same_texts x.key e.key) refl
 -- ---- a packet
 
 -- an event that is admitted is handed out if its line is kept
-event-taken : (i : IdealAgent) (packet : List ℕ) (t : ℕ) (what : EventBody) (coalesce : Bool) (r : Option Reason) → r ≡ None → hears_of (receive_gives packet (planned i (received_as r i t what coalesce)).answer).answer ≡ true
+pub event-taken : (i : IdealAgent) (packet : List ℕ) (t : ℕ) (what : EventBody) (coalesce : Bool) (r : Option Reason) → r ≡ None → hears_of (receive_gives packet (planned i (received_as r i t what coalesce)).answer).answer ≡ true
     → map out_in (receive_gives packet (planned i (received_as r i t what coalesce)).answer).events ≡ record { time = t; key = what } ∷ []
 event-taken i packet t what coalesce (Some reason) none hears = absurd (cc none)
 event-taken i packet t what coalesce None none hears =
@@ -108,14 +108,14 @@ delivers-takes lower g m number now clock packet handed ready low young there ne
 -- ---- a state
 
 -- when an event is received, nothing but this event is handed out
-received-outs : (i : IdealAgent) (x : TimedEntry EventBody) (r : Option Reason) → All (λ y. y ≡ x) (map out_in (handed_by (planned i (received_as r i x.time x.key false)).answer))
+pub received-outs : (i : IdealAgent) (x : TimedEntry EventBody) (r : Option Reason) → All (λ y. y ≡ x) (map out_in (handed_by (planned i (received_as r i x.time x.key false)).answer))
 received-outs i x (Some reason) = All-nil (λ (y : TimedEntry EventBody). y ≡ x)
 received-outs i x None =
     kept-or-failed (λ o. All (λ y. y ≡ x) (map out_in (handed_by o.answer))) i (received_as None i x.time x.key false) (All-cons (λ (y : TimedEntry EventBody). y ≡ x) x [] refl (All-nil (λ (y : TimedEntry EventBody). y ≡ x)))
     (λ d. All-nil (λ (y : TimedEntry EventBody). y ≡ x))
 
 -- when an event is admitted, it is handed out
-taken-outs : (i : IdealAgent) (x : TimedEntry EventBody) (outcome : Outcome) (r : Option Reason) → r ≡ None → (planned i (received_as r i x.time x.key false)).answer ≡ Ok outcome → map out_in (handed_by (Ok outcome)) ≡ x ∷ []
+pub taken-outs : (i : IdealAgent) (x : TimedEntry EventBody) (outcome : Outcome) (r : Option Reason) → r ≡ None → (planned i (received_as r i x.time x.key false)).answer ≡ Ok outcome → map out_in (handed_by (Ok outcome)) ≡ x ∷ []
 taken-outs i x outcome (Some reason) none is = absurd (cc none)
 taken-outs i x outcome None none is =
     kept-or-failed (λ o. o.answer ≡ Ok outcome → map out_in (handed_by (Ok outcome)) ≡ x ∷ []) i (received_as None i x.time x.key false) (λ is. ap (λ (a : Result Outcome ReceiveError). map out_in (handed_by a)) (sym is)) (λ d is. absurd (cc is)) is
@@ -202,7 +202,7 @@ merges-take lower g (x ∷ es) i handed clock ready d runs times told low young 
     (received-low i x.time clock i.queries.clock x.key false (admission i x.time x.key) (low, omega arith)).0 young) there new takes failed
 
 -- the sink doesn't fail in a merge with this answer
-unfailed : (b : Bool) → hears_of (cond b (lines.Refused refusals.SinkError) lines.Merged) ≡ true → b ≡ false
+pub unfailed : (b : Bool) → hears_of (cond b (lines.Refused refusals.SinkError) lines.Merged) ≡ true → b ≡ false
 unfailed true hears = absurd (cc hears)
 unfailed false hears = refl
 
@@ -236,13 +236,13 @@ merge-takes lower g m number join packet handed clock None _ ready d told is ref
 
 -- if the answer shows that an agent processed the packet, its clock observed all events in it, and the agent wasn't
 -- stopped
-hears-shown : (clock : ℕ) (action : Action) (given : Option (List ℕ)) (answer : Answer) → hears_of answer ≡ true → clock_shown clock action given answer ≡ clock_given clock action given
+pub hears-shown : (clock : ℕ) (action : Action) (given : Option (List ℕ)) (answer : Answer) → hears_of answer ≡ true → clock_shown clock action given answer ≡ clock_given clock action given
 hears-shown clock action given lines.New hears = refl
 hears-shown clock action given (lines.Ignored reason) hears = refl
 hears-shown clock action given lines.Merged hears = refl
 hears-shown clock action given _ hears = absurd (cc hears)
 
-hears-runs : (answer : Answer) → hears_of answer ≡ true → is_stopped answer ≡ false
+pub hears-runs : (answer : Answer) → hears_of answer ≡ true → is_stopped answer ≡ false
 hears-runs lines.New hears = refl
 hears-runs (lines.Ignored reason) hears = refl
 hears-runs lines.Merged hears = refl
@@ -281,7 +281,7 @@ acts-take lower g m sent b clock _ handed representable tells keeps low young lo
 -- ---- what is promised
 
 -- the lines of a turn show what was handed out
-lines-out : (b : ℕ) (outs : List EventOut) → map event_in (map (event_line b) outs) ≡ map out_in outs
+pub lines-out : (b : ℕ) (outs : List EventOut) → map event_in (map (event_line b) outs) ≡ map out_in outs
 lines-out b [] = refl
 lines-out b (out ∷ outs) = ap (λ l. out_in out ∷ l) (lines-out b outs)
 

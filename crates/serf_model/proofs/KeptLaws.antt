@@ -8,8 +8,10 @@ use Rattle.serf_model.proofs.CountingPromises.{counted-once, counting-start, ope
 use Rattle.serf_model.proofs.HandOutLaws.{entering-run, handing-out, messaging-run}
 use Rattle.serf_model.proofs.PromiseLaws.{promised, query-fired}
 use Rattle.serf_model.proofs.QueriesEntered.{query-only-fired}
+use Rattle.serf_model.proofs.SentLaws.{sending-run}
 use Rattle.serf_model.proofs.SettingsKept.{all-short}
 use Rattle.serf_model.proofs.SentPromises.{open-sent}
+use Rattle.serf_model.proofs.TakenLaws.{taking-run}
 use Rattle.serf_model.proofs.TurnLaws.{at_each_nil}
 
 pub kept : Below → SlotLaws EventBody → SlotLaws ℕ → (configs : List Config) (actions : List Action) → AreConfigs configs → CanTell configs actions → All HasSizes actions → KeepsPromises configs (run_of configs actions)
@@ -20,6 +22,7 @@ kept lower event_laws query_laws configs actions ok told sized =
     let out = handing-out lower configs actions in
     let counting = counting-run lower configs actions ok told in
     let served = served-run lower configs actions sized ok told in
+    let taking = taking-run lower configs actions ok told in
     record {
       once = going.once;
       fired = going.only_fired;
@@ -29,6 +32,9 @@ kept lower event_laws query_laws configs actions ok told sized =
       held_alone = going.held_alone;
       kept = going.kept;
       queries_kept = going.queries_kept;
+      sent = (sending-run lower configs actions ok told sized).sent;
+      taken = taking.taken;
+      merged = taking.merged;
       query_once = going.query_once;
       query_later = going.query_later;
       query_handed = going.query_handed;
@@ -63,6 +69,9 @@ kept-start event_laws query_laws configs = record {
   held_alone = λ none. (at_each_nil _, at_each_nil _);
   kept = at_each_nil _;
   queries_kept = at_each_nil _;
+  sent = at_each_nil _;
+  taken = at_each_nil _;
+  merged = at_each_nil _;
   query_once = λ a i j d lt within. absurd (omega arith);
   query_later = at_each_nil _;
   query_handed = λ a i j d lt within. absurd (omega arith);

@@ -34,6 +34,15 @@ pub mod ClockShown
 pub mod NotMissedLaws
 pub mod EventsNotMissed
 pub mod QueriesNotMissed
+pub mod MinimumShown
+pub mod ExactClocks
+pub mod Arriving
+pub mod TakenLaws
+pub mod SendingLaws
+pub mod StatesSent
+pub mod SentLaws
+pub mod ExchangeLaws
+pub mod WrongSilence
 pub mod PromiseLaws
 pub mod BoundLaws
 pub mod QueriesEntered

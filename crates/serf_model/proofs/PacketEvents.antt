@@ -78,7 +78,7 @@ slots-timed (s ∷ ss) all =
 pub in-life : (P : TimedEntry EventBody → Type 0) (life : ℕ) (h : List (Past EventBody)) → All (λ p. P p.entry) h → All P (of_life life h)
 in-life P life h all = All-map P (λ (p : Past EventBody). p.entry) _ (All-filter (λ (p : Past EventBody). p.life == life) (λ p. P p.entry) h all)
 
-state-ranged : Below → (i : IdealAgent) → IsRepresentable i → IsRangedPushPull (state_of (view_of i) [] [])
+pub state-ranged : Below → (i : IdealAgent) → IsRepresentable i → IsRangedPushPull (state_of (view_of i) [] [])
 state-ranged lower i g =
     let member_clock : i.member_clock ≤ 2 ^ 64 - 1 = g.consistent.sound.member_clock in
     let low : All (λ p. p.entry.time < 2 ^ 64 - 1) i.events.history =

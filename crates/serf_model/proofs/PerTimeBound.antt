@@ -27,14 +27,14 @@ abbrev pub out_in : EventOut → TimedEntry EventBody
 out_in out = record { time = out.time; key = event_of out.name out.payload }
 
 -- an entry in a life
-abbrev past : {K : Type 0} → ℕ → TimedEntry K → Past K
+abbrev pub past : {K : Type 0} → ℕ → TimedEntry K → Past K
 past life e = record { life = life; entry = e }
 
 of_life-past : {K : Type 0} (life : ℕ) (es : List (TimedEntry K)) → of_life life (map (past life) es) ≡ es
 of_life-past life [] = refl
 of_life-past life (e ∷ es) = rw (eq-eqb life life refl) (ap (λ l. e ∷ l) (of_life-past life es))
 
-of_life-append : {K : Type 0} (life : ℕ) (h : List (Past K)) (es : List (TimedEntry K)) → of_life life (h ++ map (past life) es) ≡ of_life life h ++ es
+pub of_life-append : {K : Type 0} (life : ℕ) (h : List (Past K)) (es : List (TimedEntry K)) → of_life life (h ++ map (past life) es) ≡ of_life life h ++ es
 of_life-append {K} life h es =
     ap (map (λ (p : Past K). p.entry)) (filter-append (λ (p : Past K). p.life == life) h (map (past life) es))
     ∙ map-append (λ (p : Past K). p.entry) (filter (λ (p : Past K). p.life == life) h) (filter (λ (p : Past K). p.life == life) (map (past life) es))
@@ -86,7 +86,7 @@ enters-then {K} life k a b c some more first next = record {
 -- ---- if there is room
 
 -- nothing was entered at a time that is later than all entries
-none-at : {K : Type 0} (life t : ℕ) (h : List (Past K)) → All (λ p. p.entry.time < t) h → count_at (of_life life h) t ≡ 0
+pub none-at : {K : Type 0} (life t : ℕ) (h : List (Past K)) → All (λ p. p.entry.time < t) h → count_at (of_life life h) t ≡ 0
 none-at life t [] below = refl
 none-at {K} life t (p ∷ h) below =
     let rest = none-at life t h (All-tail (λ p. p.entry.time < t) p h below) in

@@ -35,12 +35,13 @@ none-in-state : (m : PushPull) → answers_in (canonical (push_pull m) ∷ []) �
 unfolding canonical
 none-in-state m = ap (λ l. l ++ []) (none-following-state _)
 
--- the packet of an answer contains exactly this answer
+-- the packet of an answer spells this answer, and contains no other
+pub answer-spelled : Below → (r : QueryResponse) → IsRangedResponse r → length r.from ≤ 9216 → length r.payload ≤ 9216 → decoded (canonical (query_response r)) ≡ Ok (query_response r)
+answer-spelled lower r ranged from payload =
+    lower.spelled (canonical (query_response r)) (query_response r) (lower.canonical (query_response r) ranged (lower.short.response_fits r.time r.id r.from r.flags r.payload from payload))
+
 one-in-answer : Below → (r : QueryResponse) → IsRangedResponse r → length r.from ≤ 9216 → length r.payload ≤ 9216 → answers_in (canonical (query_response r) ∷ []) ≡ r ∷ []
-one-in-answer lower r ranged from payload =
-    let reads : decoded (canonical (query_response r)) ≡ Ok (query_response r) =
-    lower.spelled (canonical (query_response r)) (query_response r) (lower.canonical (query_response r) ranged (lower.short.response_fits r.time r.id r.from r.flags r.payload from payload)) in
-    ap (λ (d : Result Message WireError). answer_brought d ++ []) reads
+one-in-answer lower r ranged from payload = ap (λ (d : Result Message WireError). answer_brought d ++ []) (answer-spelled lower r ranged from payload)
 
 -- ---- what an action sends
 
@@ -70,7 +71,7 @@ pub record Sends (m : IdealNode) (action : Action) (done : Done) : Type 0 where
   pub hands : (h : DeliveredQuery) → done.handed ≡ Some h → IsHandable m.agent.config h
 
 -- the node's name is short enough for a packet
-name-short : (m : IdealNode) → IsRepresentable m.agent → length m.agent.config.name ≤ 128
+pub name-short : (m : IdealNode) → IsRepresentable m.agent → length m.agent.config.name ≤ 128
 name-short m representable =
     let per_time = and_parts _ _ representable.consistent.sound.config in
     let responders = and_parts _ _ per_time.0 in

@@ -127,7 +127,7 @@ taking which lower laws t config H S on some shows = record {
 -- ---- the acts of events
 
 -- a merge whose clocks were merged isn't refused with `Stopped`
-not-stopped : (m : IdealNode) (es : List (TimedEntry EventBody)) (s : PushPull) (join : Bool) → is_stopped (merges_heard m es (planned m.agent (hear m.agent s join))).done.answer ≡ false
+pub not-stopped : (m : IdealNode) (es : List (TimedEntry EventBody)) (s : PushPull) (join : Bool) → is_stopped (merges_heard m es (planned m.agent (hear m.agent s join))).done.answer ≡ false
 not-stopped m es s join = by (written_min_line m.agent.config s join)
   where
     failed : (b : Bool) → is_stopped (cond b (answers.Refused refusals.SinkError) answers.Merged) ≡ false

@@ -10,26 +10,26 @@ use Rattle.serf_model.specs.NotMissed.{Kept}
 -- ---- turns
 
 -- a turn that is given no packet and sends none
-abbrev turn : Action → Answer → List EventLine → Option QueryLine → Turn
+abbrev pub turn : Action → Answer → List EventLine → Option QueryLine → Turn
 turn action answer events handed = record { action = action; line = record { answer = answer; sent = []; events = events; handed = handed }; given = None; packets = [] }
 
 -- a packet is delivered to an agent
-abbrev delivery : ℕ → List ℕ → Answer → Option QueryLine → Turn
+abbrev pub delivery : ℕ → List ℕ → Answer → Option QueryLine → Turn
 delivery a packet answer handed = record { action = Of a (acts.Deliver 0 0); line = record { answer = answer; sent = []; events = []; handed = handed }; given = Some packet; packets = [] }
 
 -- agent 0 merges a state, but not at a join
-abbrev merging : List ℕ → Turn
+abbrev pub merging : List ℕ → Turn
 merging packet = record { action = Of 0 (acts.Merge 0 false); line = record { answer = answers.Merged; sent = []; events = []; handed = None }; given = Some packet; packets = [] }
 
 -- agent 0 sends a packet, whatever its action is
-abbrev sending : Action → Answer → List ℕ → Turn
+abbrev pub sending : Action → Answer → List ℕ → Turn
 sending action answer packet = record { action = action; line = record { answer = answer; sent = 0 ∷ []; events = []; handed = None }; given = None; packets = packet ∷ [] }
 
 -- an agent is handed an event of this time whose texts are empty
-abbrev handed_event : ℕ → ℕ → EventLine
+abbrev pub handed_event : ℕ → ℕ → EventLine
 handed_event a t = record { agent = a; time = t; name = []; payload = []; coalesce = false }
 
-abbrev handed_query : ℕ → ℕ → ℕ → List ℕ → QueryLine
+abbrev pub handed_query : ℕ → ℕ → ℕ → List ℕ → QueryLine
 handed_query a t id name = record { agent = a; index = 0; time = t; id = id; name = name; payload = [] }
 
 -- agent 0 fires a query
@@ -39,7 +39,7 @@ asking id name params = Of 0 (acts.Query record { moment = 0; id = id; name = na
 abbrev firing : QueryParams → ℕ → ℕ → Turn
 firing params id t = turn (asking id [] params) (answers.Queried t) [] None
 
-in-none : {X : Type 0} (x : X) → Contains [] x → ⊥
+pub in-none : {X : Type 0} (x : X) → Contains [] x → ⊥
 in-none x h = absurd (let lt = h.1 in omega arith)
 
 -- ---- events

@@ -8,6 +8,8 @@ use Rattle.serf_model.specs.HandOuts.{HandsOutEntered, HandsOutGiven, MessagesFi
 use Rattle.serf_model.specs.NotMissed.{Kept, QueriesKept}
 use Rattle.serf_model.specs.Promises.{Held, HeldOrTailed, Later, Once, OnlyFired, OnlyFiredOrTailed, QueryFired, QueryHandedOnce, QueryLater, QueryOnce}
 use Rattle.serf_model.specs.Queried.{QueryOnlyFired}
+use Rattle.serf_model.specs.Sent.{Sent}
+use Rattle.serf_model.specs.Taken.{MergedIsHanded, Taken}
 use Rattle.serf_model.specs.Tails.{NoneKeeps}
 
 -- A run of agents with these settings keeps all promises.
@@ -23,6 +25,10 @@ pub record KeepsPromises (configs : List Config) (r : Run) : Type 0 where
   -- what agents that keep their events don't miss: events and queries
   pub kept : Kept configs r.turns
   pub queries_kept : QueriesKept configs r.turns
+  -- what every agent sends, and what it accepts in its present life
+  pub sent : Sent configs r.turns
+  pub taken : Taken configs r.turns
+  pub merged : MergedIsHanded configs r.turns
   -- queries
   pub query_once : QueryOnce r.turns
   pub query_later : QueryLater r.turns

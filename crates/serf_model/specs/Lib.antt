@@ -12,6 +12,9 @@ pub mod HandOuts
 pub mod Tails
 pub mod Alone
 pub mod NotMissed
+pub mod Sent
+pub mod Taken
+pub mod Exchanges
 pub mod Kept
 pub mod Merging
 pub mod Below

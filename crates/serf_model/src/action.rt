@@ -40,56 +40,57 @@ impl Drop for Action {
     }
 }
 
-/// What an agent does. Packets are numbered from 0 in the order in which they were sent. The queries that are handed to
-/// an agent are numbered from 0 in each of its lives. Moments are in nanoseconds.
+/// An action of one agent. Packets are numbered from 0 in the order in which they were sent. The queries that are
+/// handed to an agent are numbered from 0 in each of its lives. Moments are in nanoseconds.
 pub enum Act {
-    /// It fires a user event.
+    /// The agent fires a user event.
     Fire {
         name: Bytes,
         payload: Bytes,
         /// Whether the event may be coalesced with others of its name.
         coalesce: bool,
     },
-    /// It is given packet number `packet` at the moment `now`. Any packet can be given to any agent, any number of
-    /// times. A packet that is never given to an agent is lost.
+    /// The agent receives packet number `packet` at the moment `now`. Any agent can receive any packet, any number of
+    /// times. A packet that no agent receives is lost.
     Deliver {
         packet: u64,
         now: u64,
     },
-    /// It sends its whole state as a push/pull message.
+    /// The agent sends its whole state as a push/pull message.
     State,
-    /// It merges the state in packet number `packet`. If `join` is true, the merge belongs to a join, at which the
-    /// agent may ignore what was fired before, depending on its settings.
+    /// The agent merges the state in packet number `packet`. If `join` is true, the merge is part of a join. Depending
+    /// on its settings, the agent may then ignore events that were fired earlier.
     Merge {
         packet: u64,
         join: bool,
     },
-    /// It fires a query.
+    /// The agent fires a query.
     Query(Boxed<NewQuery>),
-    /// It answers query number `handed` of those that were handed to it in this life, at the moment `now`, with
-    /// `payload`.
+    /// The agent answers query number `handed` with `payload`, at the moment `now`. The number counts the queries that
+    /// were handed to the agent in this life, from 0.
     Respond {
         handed: u64,
         now: u64,
         payload: Bytes,
     },
-    /// It is opened again, on what its sink kept followed by `tail`: bytes that an interrupted call had appended.
+    /// The agent is opened again, on the text that its sink kept, followed by `tail`: bytes that an interrupted call
+    /// had appended.
     Restart {
         tail: Bytes,
     },
-    /// It plans a failure of its sink: of the next calls of the kind `call`, call number `count`, counted from 1, will
-    /// fail. If `count` is 0, none will.
+    /// A failure of the agent's sink is planned: of the sink's next calls of the kind `call`, call number `count`,
+    /// counted from 1, will fail. If `count` is 0, none of them will.
     Break {
         call: SinkCall,
         count: u64,
     },
-    /// It closes its open queries whose deadlines are past at the moment `now`.
+    /// The agent closes its open queries whose deadlines are past at the moment `now`.
     Close {
         now: u64,
     },
-    /// It writes the line of its member clock to its snapshot.
+    /// The agent writes the line of its member clock to its snapshot.
     Save,
-    /// It compacts its snapshot, so that the text has only the lines that are still needed.
+    /// The agent compacts its snapshot, so that the text has only the lines that are still needed.
     Compact,
 }
 
@@ -156,7 +157,7 @@ impl Action {
 }
 
 impl Act {
-    /// Returns the packet of `sent` that the agent is given, if there is one. Allocates no memory.
+    /// Returns the packet of `sent` that the act passes to its agent, if there is one. Allocates no memory.
     pub fn given<'a>(&self, sent: &'a [Bytes]) -> Option<&'a [u8]>
         ensures { option_copied result ≡ given_by sent.now self.now }
     {

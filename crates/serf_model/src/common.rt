@@ -1,4 +1,4 @@
-//! Which turns are common: those that depend on none of this project's own rules.
+//! Decides which turns are common. A turn is common if it depends on none of this project's own rules.
 
 ghost use Rattle.std.specs.Prelude.{◌≡◌, ◌&&◌, None, Some};
 ghost use Rattle.serf_model.specs.Common.{acts_commonly, enters_query, is_common_answer, is_common_line, is_common_reason, is_common_refusal, settings_of};
@@ -42,15 +42,15 @@ fn is_common_answer(answer: Answer) -> bool
     }
 }
 
-/// Whether `answer` means that a query entered, because it was delivered or fired.
+/// Whether `answer` means that a query entered the buffer, as a delivered query or as a fired one.
 fn enters_query(answer: Answer) -> bool
     ensures { result ≡ enters_query answer }
 {
     matches!(answer, Answer::Query | Answer::Queried(_))
 }
 
-/// Whether `line` depends on none of this project's own rules: its answer is common, and no query was held back by
-/// its filters.
+/// Whether `line` depends on none of this project's own rules: its answer is common, and its query, if it has one,
+/// wasn't held back by filters.
 fn is_common_line(line: &Line) -> bool
     ensures { result ≡ is_common_line line.now }
 {
@@ -58,9 +58,9 @@ fn is_common_line(line: &Line) -> bool
     is_common_answer(line.answer) && !is_held_back
 }
 
-/// Whether an agent with the settings `config` does `action` without any of this project's own rules. A restart is
-/// common if the agent doesn't keep its events and the tail is empty. A merge is common if the agent accepts at least
-/// as many events of one time as by default.
+/// Whether `action` depends on none of this project's own rules, if an agent with the settings `config` does it. A
+/// restart is common if the agent doesn't keep its events and the tail is empty. A merge is common if the agent accepts
+/// at least as many events of one time as by default.
 fn acts_commonly(config: &Config, action: &Action) -> bool
     ensures { result ≡ acts_commonly (Some config.now) action.now }
 {
@@ -91,16 +91,16 @@ fn is_common_without_agent(action: &Action) -> bool
     }
 }
 
-/// Whether the turn of `action` and `line` depends on none of this project's own rules, provided that the turns before
-/// it don't either. `config` has the settings of the agent that acts. Allocates no memory.
+/// Whether the turn of `action` and `line` depends on none of this project's own rules, provided that the same is true
+/// of all earlier turns. `config` has the settings of the agent that acts. Allocates no memory.
 pub fn is_common_turn_of(config: &Config, action: &Action, line: &Line) -> bool
     ensures { result ≡ (is_common_line line.now && acts_commonly (Some config.now) action.now) }
 {
     is_common_line(line) && acts_commonly(config, action)
 }
 
-/// Whether the turn of `action` and `line` depends on none of this project's own rules, provided that the turns before
-/// it don't either. `configs` are the settings of all agents. Allocates no memory.
+/// Whether the turn of `action` and `line` depends on none of this project's own rules, provided that the same is true
+/// of all earlier turns. `configs` are the settings of all agents. Allocates no memory.
 pub fn is_common_turn(configs: &[Config], action: &Action, line: &Line) -> bool
     ensures { result ≡ (is_common_line line.now
         && acts_commonly (settings_of configs.now (actor_of action.now)) action.now) }

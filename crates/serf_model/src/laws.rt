@@ -1,5 +1,5 @@
-//! Laws: what holds of every run of the model, stated as clauses of functions that do nothing. Code that needs a law
-//! calls its function, and the prover may use the clauses after the call.
+//! The laws of every run of the model, stated as clauses of functions that do nothing. Code that needs a law calls its
+//! function, and the prover may use the clauses after the call.
 
 ghost use Rattle.std.specs.Prelude.{◌≡◌, ◌++◌, ℕ, Bool, true, List, [], Option, Some, All, slice_get};
 ghost use Rattle.serf_snapshot.specs.Device.{fresh_device};
@@ -17,6 +17,7 @@ ghost use Rattle.serf_model.specs.AnswerPromises.{AckedOnce, AnswersMade, Counte
 ghost use Rattle.serf_model.specs.Below.{Below};
 ghost use Rattle.serf_model.specs.Bounds.{EventsBounded, QueriesBounded, WindowsBounded};
 ghost use Rattle.serf_model.specs.Cluster.{IdealNode, apply, delivers, merges_given, run_of, start, text_after, trace_of};
+ghost use Rattle.serf_model.specs.Exchanges.{ExchangeHands, SpreadsOnWays};
 ghost use Rattle.serf_model.specs.HandOuts.{HandsOutEntered, HandsOutGiven, MessagesFired, NewIsHanded, OnlyToActor};
 ghost use Rattle.serf_model.specs.Kept.{KeepsPromises};
 ghost use Rattle.serf_model.specs.NotMissed.{Kept, QueriesKept};
@@ -25,7 +26,9 @@ ghost use Rattle.serf_model.specs.Promises.{Held, HeldOrTailed, Later, Once, Onl
 ghost use Rattle.serf_model.specs.Queried.{QueryOnlyFired};
 ghost use Rattle.serf_model.specs.Ready.{AreRepresentable, IsRepresentable};
 ghost use Rattle.serf_model.specs.Runs.{AreConfigs, HasShortQueries, NoneBadIsSound};
+ghost use Rattle.serf_model.specs.Sent.{Sent};
 ghost use Rattle.serf_model.specs.Sizes.{HasSizes};
+ghost use Rattle.serf_model.specs.Taken.{MergedIsHanded, Taken};
 ghost use Rattle.serf_model.specs.Tails.{CanTell, CanTellAct, NoneKeeps};
 ghost use Rattle.serf_model.specs.Trace.{events_in_packet, given_by, turns_by, turns_of};
 
@@ -50,27 +53,27 @@ fn laws_below()
     short_packets(); // no text in an agent's packet is too long for its header
     sound_steps(); // agents stay sound, and admit nothing a second time
     event_line_laws(); // a snapshot's line of an event reads back as it was written
-    kept_append_line_laws(); // a snapshot of an agent that keeps events reports what its sink keeps
+    kept_append_line_laws(); // if an agent keeps events, its snapshot reports what its sink keeps
     min_time_laws(); // the minimums in a snapshot's text
-    read_laws(); // what is read from a snapshot's text can be written again
+    read_laws(); // everything that is read from a snapshot's text can be written again
     said_laws(); // which events are in a snapshot's text
     said_query_laws(); // which queries are in a snapshot's text
-    kept_text_laws(); // which entries that were handed out a snapshot's text keeps
+    kept_text_laws(); // which of the entries that were handed out are kept in a snapshot's text
     keeping_laws(); // tracks that are kept over a restart
     kept_life_promises(); // what agents that keep their events promise across restarts
 }
 
-/// Every run keeps every promise, whatever its settings and its actions are. Does nothing.
+/// Every run keeps every promise, whatever its settings and its actions are. This function does nothing.
 ///
 /// `promises` states all promises at once, for agents that can make a cluster and for actions whose numbers fit into
-/// their types (`HasSizes`). If an agent keeps its events, a snapshot's line has to be able to hold what the actions
-/// fire or inject: the texts have to be bytes, and the IDs of queries have to be below 2^32 (`CanTell`). Each of the
-/// other clauses states one promise.
+/// their types (`HasSizes`). If an agent keeps its events, a snapshot's lines must be able to hold everything that the
+/// actions fire or inject: the texts have to be bytes, and the IDs of queries have to be below 2^32 (`CanTell`). Each
+/// of the other clauses states one promise.
 pub fn run_promises()
     ensures promises { (configs : List Config) (actions : List Action) → AreConfigs configs
         → CanTell configs actions → All HasSizes actions
         → KeepsPromises configs (run_of configs actions) }
-    // A run without actions keeps them, whatever the settings are.
+    // A run without actions keeps all promises, whatever the settings are.
     ensures start { (configs : List Config) → KeepsPromises configs (start configs) }
 
     // Promises about the times and the origin of events and queries.
@@ -87,11 +90,19 @@ pub fn run_promises()
         → NoneKeeps configs → OnlyFired (run_of configs actions).turns }
     ensures held_alone { (configs : List Config) (actions : List Action) → AreConfigs configs
         → NoneKeeps configs → Held (run_of configs actions).turns }
-    // Promises about what agents that keep their events don't miss.
+    // Promises that agents miss nothing if they keep their events.
     ensures kept { (configs : List Config) (actions : List Action) → AreConfigs configs
         → CanTell configs actions → Kept configs (run_of configs actions).turns }
     ensures queries_kept { (configs : List Config) (actions : List Action) → AreConfigs configs
         → CanTell configs actions → QueriesKept configs (run_of configs actions).turns }
+    // Promises about what every agent sends, and about what it accepts in its present life.
+    ensures sent { (configs : List Config) (actions : List Action) → All HasSizes actions
+        → AreConfigs configs → CanTell configs actions
+        → Sent configs (run_of configs actions).turns }
+    ensures taken { (configs : List Config) (actions : List Action) → AreConfigs configs
+        → CanTell configs actions → Taken configs (run_of configs actions).turns }
+    ensures merged { (configs : List Config) (actions : List Action) → AreConfigs configs
+        → CanTell configs actions → MergedIsHanded configs (run_of configs actions).turns }
     ensures query_once { (configs : List Config) (actions : List Action) → AreConfigs configs
         → CanTell configs actions → QueryOnce (run_of configs actions).turns }
     ensures query_later { (configs : List Config) (actions : List Action) → AreConfigs configs
@@ -143,15 +154,36 @@ pub fn run_promises()
         → AreConfigs configs → CanTell configs actions
         → WindowsBounded (run_of configs actions) }
 
-    // After a run, the agents' open queries hold what was counted.
+    // After a run, the agents' open queries hold the answers that were counted.
     ensures open_queries { (configs : List Config) (actions : List Action) → AreConfigs configs
         → CanTell configs actions → OpenQueriesHold (run_of configs actions) }
 {
-    laws_below(); // what the promises of a run depend on
+    laws_below(); // the laws on which the promises of a run depend
     slot_laws(); // the slots of queries, which `laws_below` leaves out
 }
 
-/// The turns of a run are exactly what its actions and its trace show, whatever actions follow. Does nothing.
+/// Events spread when agents exchange their states. This function does nothing.
+///
+/// After an agent has merged the state that another agent sent, it has been handed each event of the sender's present
+/// life and window, unless the turns show a reason against it (`hands`). So as long as no agent is opened again and
+/// there is no reason of this kind, an event travels along every chain of exchanges. If a chain leads from each agent
+/// to every other agent, all agents are handed the same events (`spreads`).
+///
+/// The law doesn't state that any exchange happens. A run has only the exchanges that are among its actions, and an
+/// exchange that is never done spreads nothing. The law assumes no fairness, and states nothing about a real network.
+pub fn exchanges_spread()
+    ensures hands { (configs : List Config) (actions : List Action) → All HasSizes actions
+        → AreConfigs configs → CanTell configs actions
+        → ExchangeHands configs (run_of configs actions).turns }
+    ensures spreads { (configs : List Config) (actions : List Action) → All HasSizes actions
+        → AreConfigs configs → CanTell configs actions
+        → SpreadsOnWays configs (run_of configs actions).turns }
+{
+    laws_below();
+}
+
+/// The turns of a run are exactly what its actions and its trace show, whatever actions follow. This function does
+/// nothing.
 pub fn turns_shown()
     ensures { (configs : List Config) (done left : List Action) → AreConfigs configs
         → turns_of (done ++ left) (trace_of (run_of configs done)) ≡ (run_of configs done).turns }
@@ -159,9 +191,9 @@ pub fn turns_shown()
     laws_below();
 }
 
-/// The turns of one agent in a run show the same results as its calls when it is alone and each call is given the bytes
-/// of its packet. Both leave the agent in the same state. So one agent can be compared with the model by itself. Does
-/// nothing.
+/// The turns of one agent in a run show the same results as the same calls on this agent alone, if each call is given
+/// the bytes of its packet. Both leave the agent in the same state. So a single agent can be compared with the model.
+/// This function does nothing.
 pub fn agents_alone()
     ensures { (configs : List Config) (actions : List Action) (a : ℕ) (config : Config)
         (m : IdealNode) → slice_get configs a ≡ Some config
@@ -172,9 +204,9 @@ pub fn agents_alone()
 /// Agents stay representable.
 ///
 /// The agents of a cluster that has done nothing are representable. An act leaves its agent representable if a
-/// snapshot's lines can hold what the act fires or is given. An agent before its first life is sound. The text that a
-/// representable agent's sink keeps, with any tail after it, has the times of everything that entered, and everything
-/// that the agent's next life needs. Does nothing.
+/// snapshot's lines can hold the events and queries that the act fires or delivers. An agent before its first life is
+/// sound. If an agent is representable, the text that its sink keeps, with any tail after it, has the times of
+/// everything that entered, and everything that the agent's next life needs. This function does nothing.
 pub fn representable_agents()
     ensures start { (configs : List Config) → AreConfigs configs
         → AreRepresentable (start configs).cluster }
@@ -191,7 +223,7 @@ pub fn representable_agents()
     laws_below();
 }
 
-/// The events in a packet of bytes can be written in the lines of a snapshot. Does nothing.
+/// If a packet consists of bytes, its events can be written in a snapshot's lines. This function does nothing.
 pub fn told_packets()
     ensures { (packet : List ℕ) → AreBytes packet
         → All (λ e. IsWritable e.key) (events_in_packet packet) }
@@ -199,19 +231,19 @@ pub fn told_packets()
     decoded_texts();
 }
 
-/// If none of the settings is bad, each of them is sound. Does nothing.
+/// If none of the settings is bad, each of them is sound. This function does nothing.
 pub fn sound_settings()
     ensures { NoneBadIsSound }
 {}
 
-/// During a merge, the agent stays representable after each event. Does nothing.
+/// During a merge, the agent stays representable after each event. This function does nothing.
 pub fn merged_agents()
     ensures { MergesRepresentable }
 {
     laws_below();
 }
 
-/// A delivery or a merge doesn't change the list of queries that were handed to its agent. Does nothing.
+/// A delivery or a merge doesn't change the list of queries that were handed to its agent. This function does nothing.
 pub fn handed_queries()
     ensures delivers { (m : IdealNode) (now : ℕ) (given : Option (List ℕ))
         → (delivers m now given).node.handed ≡ m.handed }

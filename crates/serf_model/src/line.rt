@@ -8,8 +8,8 @@ use serf_agent::Reason;
 use serf_lamport::Time;
 use serf_wire::{Bytes, WireError};
 
-/// Why an action is refused. If several reasons apply, the refusal is the first that is found. `NoAgent`, `NoMessage`
-/// and `NoQuery` are checked first, in this order.
+/// The reason why an action is refused. If several reasons apply, the refusal is the one that is found first.
+/// `NoAgent`, `NoMessage` and `NoQuery` are checked first, in this order.
 #[derive(Clone, Copy, PartialEq, Eq)]
 pub enum Refusal {
     /// No agent has this number.
@@ -55,7 +55,7 @@ pub enum Answer {
     Response,
     /// A delivered packet was ignored for this reason.
     Ignored(Reason),
-    /// The agent doesn't read messages of the delivered message's type, which is this byte.
+    /// The delivered message is of this type, and the agent doesn't read messages of this type.
     Foreign(u8),
     /// The delivered packet contains a push/pull, which an agent reads only in a merge.
     PushPull,
@@ -83,7 +83,7 @@ pub enum Answer {
     },
     /// This many open queries were closed.
     Closed(u64),
-    /// The action was refused: nothing was done, or only a part of it.
+    /// The action was refused: it wasn't done, or only a part of it was.
     Refused(Refusal),
 }
 

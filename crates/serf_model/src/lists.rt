@@ -8,7 +8,7 @@ use smallvec::SmallVec;
 use std::alloc::Global;
 use std::marker::Model;
 
-/// Numbers of packets, in order. Packets are numbered from 0 as they are sent.
+/// Numbers of packets, in order. Packets are numbered from 0 in the order in which they are sent.
 ///
 /// Contracts see the list of the numbers. A single number needs no block of memory.
 #[derive(Drop)]

@@ -6,7 +6,7 @@ use serf_agent::{BytesList, QueryParams};
 use serf_wire::Bytes;
 use std::alloc::{AllocError, Global};
 
-/// A query before it is fired. `params` says which nodes the query is for, and how they are to answer.
+/// A query before it is fired. `params` determines which nodes the query is for, and how they are to answer.
 #[derive(Drop)]
 pub struct NewQuery {
     /// The moment at which the query is fired, in nanoseconds.

@@ -2,15 +2,15 @@
 
 use thiserror::Error;
 
-/// Why bytes are not a valid value: the first error in reading order. Its offset is in bytes from the start
-/// of the input, and is at most the input's length.
+/// Why bytes are not a valid value: the first error in reading order. The offset of an error is in bytes from
+/// the start of the input, and is at most the input's length.
 #[derive(Clone, Copy, Debug, PartialEq, Eq, Error)]
 pub enum PackError {
-    /// The input ends inside the value that begins at this offset: at its first byte, in its number, in its
-    /// length or count, or in its raw bytes.
+    /// The input ends inside the value that begins at this offset: at the value's first byte, in its number,
+    /// in its length or count, or in its raw bytes.
     #[error("the input ends inside the value at byte {0}")]
     Truncated(usize),
-    /// This byte, at this offset, doesn't begin a value of the profile: it is c1, or the first byte of a
+    /// The byte at this offset doesn't begin a value of the profile. The byte is c1, or the first byte of a
     /// float or an ext format.
     #[error("byte {0:#04x} at {1} doesn't begin a supported value")]
     Unsupported(u8, usize),

@@ -1,4 +1,5 @@
-//! Reads the head of a value: its first byte, and the number after it. MessagePack specification, "Formats".
+//! Reads the head of a value, which is its first byte and the number after this byte. Source: MessagePack
+//! specification, "Formats".
 
 ghost use Rattle.std.specs.Prelude.{◌≡◌, ◌≤◌, ◌+◌, ◌<◌, ◌^◌, length, IfOk};
 ghost use Rattle.byteorder.specs.Endian.{big_number, twos_complement};
@@ -8,7 +9,7 @@ ghost use Rattle.serf_pack.specs.Reading.{Gives, head_at, HasWidth};
 use crate::error::PackError;
 use byteorder::{BigEndian, ByteOrder};
 
-/// What the head of a value means.
+/// The meaning of the head of a value.
 #[derive(Clone, Copy)]
 pub enum Head {
     /// Nil ("nil format").
@@ -17,15 +18,15 @@ pub enum Head {
     Flag(bool),
     /// An integer, signed or unsigned ("int format family").
     Int(i128),
-    /// A byte string: this many bytes follow ("str format family" or "bin format family").
+    /// A byte string, of which this many bytes follow ("str format family" or "bin format family").
     Raw(u64),
-    /// An array: this many values follow ("array format family").
+    /// An array, of which this many values follow ("array format family").
     Array(u64),
-    /// A map: this many pairs of values follow ("map format family").
+    /// A map, of which this many pairs of values follow ("map format family").
     Map(u64),
 }
 
-/// What the number after a first byte means.
+/// The meaning of the number that follows a first byte.
 #[derive(Clone, Copy)]
 pub enum Field {
     /// The number is the value.
@@ -43,7 +44,7 @@ pub enum Field {
 /// A row of the table of first bytes.
 #[derive(Clone, Copy)]
 pub enum Row {
-    /// The byte is the whole head.
+    /// The first byte is the whole head.
     Whole(Head),
     /// A number of this many bytes follows, the most significant byte first.
     Number(Field, usize),
@@ -51,7 +52,7 @@ pub enum Row {
     Unsupported,
 }
 
-/// The row of the table for the first byte `byte`.
+/// Returns the row of the table for the first byte `byte`.
 #[inline(always)]
 pub fn row_for(byte: u8) -> Row
     ensures row { result ≡ row_of byte }
@@ -89,7 +90,7 @@ pub fn row_for(byte: u8) -> Row
     }
 }
 
-/// The number in the first `width` bytes of `bytes`, the most significant byte first.
+/// Reads a number in the first `width` bytes of `bytes`, the most significant byte first.
 #[inline(always)]
 fn number(width: usize, bytes: &[u8]) -> u64
     requires low { 1 ≤ width }
@@ -106,7 +107,8 @@ fn number(width: usize, bytes: &[u8]) -> u64
     }
 }
 
-/// The head whose number is in the first `width` bytes of `bytes`, and has the meaning that `field` says.
+/// Returns the head whose number is in the first `width` bytes of `bytes`. `field` says what this number
+/// means.
 #[inline(always)]
 fn meaning(field: Field, width: usize, bytes: &[u8]) -> Head
     requires low { 1 ≤ width }
@@ -124,9 +126,9 @@ fn meaning(field: Field, width: usize, bytes: &[u8]) -> Head
     }
 }
 
-/// Reads the head at the start of `bytes`, and returns it with the bytes after it. `bytes` are the end of an
+/// Reads the head at the start of `bytes`. Returns the head and the bytes after it. `bytes` are the end of an
 /// input of `total` bytes. The error is `Truncated` if the bytes end before the head does, and `Unsupported`
-/// if no format begins with the first byte. Both errors have the offset of the first byte. Allocates no
+/// if no format begins with the first byte. Both errors contain the offset of the first byte. Allocates no
 /// memory.
 #[tactic(auto, unfolding(crate::specs::Reading::head_at))]
 #[inline(always)]

@@ -1,7 +1,7 @@
-//! Appends canonical spellings to a vector, `out`: the shortest format of each number, length and count (byte
-//! strings are str, and str 8 is not used). Each function returns `AllocError` only if the vector's capacity
-//! is too small and the vector can't grow, and then the vector's contents are unchanged. The capacity never
-//! falls. MessagePack specification, "Formats" and "Serialization: type to format conversion".
+//! Appends canonical spellings to a vector, `out`: the shortest format of each number, length and count. Byte
+//! strings are written as str, but never as str 8. Each function returns `AllocError` only if the vector's
+//! capacity is too small and the vector can't grow. The vector's contents are then unchanged. The capacity
+//! never falls. Source: MessagePack specification, "Formats" and "Serialization: type to format conversion".
 
 ghost use Rattle.std.specs.Prelude.{◌≡◌, ◌≤◌, ◌<◌, ◌+◌, ◌^◌, ◌++◌, ◌∷◌, [], length, is_ok, OnOk, OnErr, vec_len, vec_capacity, if◌then◌else◌};
 ghost use Rattle.byteorder.specs.Endian.{big_bytes, low_bytes};
@@ -11,7 +11,7 @@ ghost use Rattle.serf_pack.specs.Canonical.{map_head, array_head, raw_head, raw_
 use byteorder::{BigEndian, ByteOrder};
 use std::alloc::AllocError;
 
-/// Appends the first byte `format`, and `number` in `width` bytes, the most significant byte first.
+/// Appends the first byte `format`, and then `number` in `width` bytes, the most significant byte first.
 fn write_number(out: &mut Vec<u8>, format: u8, number: u64, width: usize) -> Result<(), AllocError>
     requires low { 1 ≤ width }
     requires high { width ≤ 8 }
@@ -27,7 +27,7 @@ fn write_number(out: &mut Vec<u8>, format: u8, number: u64, width: usize) -> Res
     out.extend_from_slice(&bytes[..1 + width])
 }
 
-/// Appends `byte`, a first byte that is a whole head.
+/// Appends `byte`, a first byte that is the whole head of a value.
 fn write_byte(out: &mut Vec<u8>, byte: u8) -> Result<(), AllocError>
     ensures ok { OnOk result (out.new.items ≡ out.old.items ++ byte ∷ []) }
     ensures err { OnErr result (out.new.items ≡ out.old.items) }
@@ -38,7 +38,7 @@ fn write_byte(out: &mut Vec<u8>, byte: u8) -> Result<(), AllocError>
 }
 
 /// Appends the header of a map of `count` pairs, in 1, 3 or 5 bytes. The caller then appends the pairs, each
-/// a key and its value. On `AllocError` the vector's contents are unchanged.
+/// of them as a key and its value. On `AllocError` the vector's contents are unchanged.
 ///
 /// Source: MessagePack specification, "map format family": fixmap, map 16, map 32.
 pub fn write_map(out: &mut Vec<u8>, count: u32) -> Result<(), AllocError>
@@ -161,8 +161,8 @@ pub fn write_nil(out: &mut Vec<u8>) -> Result<(), AllocError>
     write_byte(out, 0xc0)
 }
 
-/// Appends the first byte `format`, and `number` in `width` bytes in two's complement, the most significant
-/// byte first.
+/// Appends the first byte `format`, and then `number` in `width` bytes in two's complement, the most
+/// significant byte first.
 fn write_signed(out: &mut Vec<u8>, format: u8, number: i64, width: usize) -> Result<(), AllocError>
     requires low { 1 ≤ width }
     requires high { width ≤ 8 }
@@ -178,8 +178,8 @@ fn write_signed(out: &mut Vec<u8>, format: u8, number: i64, width: usize) -> Res
     out.extend_from_slice(&bytes[..1 + width])
 }
 
-/// Appends a signed integer, in 1, 2, 3, 5 or 9 bytes. An integer of 0 or above has the same spelling as with
-/// `write_unsigned`. On `AllocError` the vector's contents are unchanged.
+/// Appends a signed integer, in 1, 2, 3, 5 or 9 bytes. An integer of 0 or above is written in the same way as
+/// by `write_unsigned`. On `AllocError` the vector's contents are unchanged.
 ///
 /// Source: MessagePack specification, "int format family": the fixints, uint 8 to uint 64, int 8 to int 64.
 pub fn write_integer(out: &mut Vec<u8>, n: i64) -> Result<(), AllocError>

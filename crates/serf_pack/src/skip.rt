@@ -1,4 +1,4 @@
-//! Skips values without keeping them, for the check and for the iterators. Allocates no memory.
+//! Skips values without keeping them, for the check and for the iterators. Nothing here allocates memory.
 
 ghost use Rattle.std.specs.Prelude.{◌≡◌, ◌≤◌, ◌<◌, ◌^◌, ℕ, length, IfOk, IfSome, Ok};
 ghost use Rattle.serf_pack.specs.Reading.{Gives, value_at, items_at, pairs_at, rest_of};
@@ -6,10 +6,10 @@ ghost use Rattle.serf_pack.specs.Reading.{Gives, value_at, items_at, pairs_at, r
 use crate::error::PackError;
 use crate::head::{Field, Head, Row, read_head, row_for};
 
-/// The bytes after the value at the start of `bytes`, if it has one of the formats that most values of a
-/// packet have: nil, a truth value, a fixint, an unsigned integer, a short byte string. Returns `None` for a
-/// value of another format, and if the value's bytes pass the end. With this function, the walk over a packet
-/// is one loop without calls.
+/// Skips the value at the start of `bytes`, if it has one of the most common formats: nil, a truth value, a
+/// fixint, an unsigned integer, or a short byte string. Returns the bytes after the value. Returns `None` for
+/// a value of another format, and if the value's bytes pass the end. With this function, the walk over a
+/// packet is one loop without calls.
 #[inline(always)]
 fn skip_short(bytes: &[u8]) -> Option<&[u8]>
     ensures rest { IfSome result (λ x. (depth_left : ℕ) → (total : ℕ)
@@ -39,7 +39,7 @@ fn skip_short(bytes: &[u8]) -> Option<&[u8]>
     }
 }
 
-/// Skips the value at the start of `bytes`, and returns the bytes after it, or the value's first error.
+/// Skips the value at the start of `bytes`. Returns the bytes after the value, or the value's first error.
 /// `bytes` are the end of an input of `total` bytes. Arrays and maps may be nested up to `depth_left` deep.
 #[cycle(skip)]
 #[inline(always)]
@@ -54,7 +54,7 @@ pub fn skip(depth_left: u64, total: usize, bytes: &[u8]) -> Result<&[u8], PackEr
     }
 }
 
-/// Does what `skip` does, for a value of any format.
+/// Skips a value as `skip` does, but of any format.
 #[cycle(skip)]
 fn skip_any(depth_left: u64, total: usize, bytes: &[u8]) -> Result<&[u8], PackError>
     requires { length bytes.now ≤ total }
@@ -88,7 +88,8 @@ fn skip_any(depth_left: u64, total: usize, bytes: &[u8]) -> Result<&[u8], PackEr
     }
 }
 
-/// The bytes after `count` values at the start of `bytes`, or the first error of these values.
+/// Skips `count` values at the start of `bytes`. Returns the bytes after them, or the first error of these
+/// values.
 #[cycle(skip)]
 fn skip_items(depth_left: u64, total: usize, count: u64, bytes: &[u8]) -> Result<&[u8], PackError>
     requires { length bytes.now ≤ total }
@@ -103,7 +104,8 @@ fn skip_items(depth_left: u64, total: usize, count: u64, bytes: &[u8]) -> Result
     Ok(rest)
 }
 
-/// The bytes after `count` pairs of values at the start of `bytes`, or the first error of these pairs.
+/// Skips `count` pairs of values at the start of `bytes`. Returns the bytes after them, or the first error of
+/// these pairs.
 #[cycle(skip)]
 fn skip_pairs(depth_left: u64, total: usize, count: u64, bytes: &[u8]) -> Result<&[u8], PackError>
     requires { length bytes.now ≤ total }

@@ -1,4 +1,4 @@
-//! A checked value, read in place. Nothing here allocates memory.
+//! A checked value, which is read in place. Nothing here allocates memory.
 
 ghost use Rattle.std.specs.Prelude.{◌≡◌, ◌≤◌, ◌<◌, ◌^◌, IfSome, length, is_ok, true};
 ghost use Rattle.serf_pack.specs.Reading.{value_at};
@@ -6,7 +6,7 @@ ghost use Rattle.serf_pack.specs.Reading.{value_at};
 use crate::head::{Head, read_head};
 use crate::walk::{Items, Pairs};
 
-/// The kind of a value. MessagePack specification, "Type system".
+/// The kind of a value. Source: MessagePack specification, "Type system".
 #[derive(Clone, Copy, Debug, PartialEq, Eq)]
 pub enum Kind {
     /// Nil ("nil format").
@@ -23,8 +23,8 @@ pub enum Kind {
     Map,
 }
 
-/// A value of checked bytes, which the view borrows. [`check`](crate::check) makes views, and so do the
-/// iterators over another view's parts. Copying a view copies no bytes.
+/// A value of checked bytes, which are borrowed. [`check`](crate::check) makes views, and so do the iterators
+/// over the parts of another view. Copying a view copies no bytes.
 #[derive(Clone, Copy, Debug)]
 pub struct View<'a> {
     pub(crate) bytes: &'a [u8],
@@ -44,7 +44,7 @@ impl<'a> View<'a> {
     ghost use Rattle.serf_pack.specs.View.{tree_of, kind_of, int_of, flag_of, raw_of, place_of, items_of, pairs_of, tree_by, HasParts};
     ghost use Rattle.serf_pack.specs.Walk.{items_left, pairs_left};
 
-    /// The value's head, and the bytes after it.
+    /// Returns the value's head, and the bytes after it.
     #[inline(always)]
     fn head(&self) -> (Head, &'a [u8])
         ensures tree { tree_of self.now ≡ tree_by self.now.depth_left self.now.total
@@ -59,7 +59,7 @@ impl<'a> View<'a> {
         }
     }
 
-    /// The kind of the value. Allocates no memory.
+    /// Returns the kind of the value. Allocates no memory.
     #[inline]
     pub fn kind(&self) -> Kind
         ensures { result ≡ kind_of (tree_of self.now) }
@@ -74,8 +74,8 @@ impl<'a> View<'a> {
         }
     }
 
-    /// The number if the value is an integer, from -2^63 to 2^64 - 1, or `None` if it is of another kind.
-    /// Allocates no memory.
+    /// Returns the number if the value is an integer, from -2^63 to 2^64 - 1. Returns `None` if the value is
+    /// of another kind. Allocates no memory.
     ///
     /// Source: MessagePack specification, "int format family".
     #[inline]
@@ -89,7 +89,8 @@ impl<'a> View<'a> {
         }
     }
 
-    /// The truth value if the value is a boolean, or `None` if it is of another kind. Allocates no memory.
+    /// Returns the truth value if the value is a boolean, or `None` if it is of another kind. Allocates no
+    /// memory.
     ///
     /// Source: MessagePack specification, "bool format family".
     #[inline]
@@ -102,8 +103,8 @@ impl<'a> View<'a> {
         }
     }
 
-    /// The bytes of a byte string, str or bin, borrowed from the input, or `None` if the value is of another
-    /// kind. Allocates no memory.
+    /// Returns the bytes of a byte string, str or bin, borrowed from the input. Returns `None` if the value
+    /// is of another kind. Allocates no memory.
     ///
     /// Source: MessagePack specification, "str format family" and "bin format family".
     #[inline]
@@ -117,8 +118,8 @@ impl<'a> View<'a> {
         }
     }
 
-    /// The place at which the value begins in the input that was checked, in bytes from its start. Allocates
-    /// no memory.
+    /// Returns the offset at which the value begins in the input that was checked, in bytes from the start of
+    /// the input. Allocates no memory.
     #[inline]
     pub fn offset(&self) -> usize
         ensures place { result ≡ place_of (tree_of self.now) }
@@ -127,7 +128,7 @@ impl<'a> View<'a> {
         self.total - self.bytes.len()
     }
 
-    /// The items of an array, in order. A value of another kind has none. Allocates no memory.
+    /// Returns the items of an array, in order. A value of another kind has no items. Allocates no memory.
     ///
     /// Source: MessagePack specification, "array format family".
     #[tactic(auto, unfolding(crate::specs::Reading::items_at))]
@@ -145,8 +146,8 @@ impl<'a> View<'a> {
         }
     }
 
-    /// The pairs of a map, each a key and its value, in order. A value of another kind has none. Allocates no
-    /// memory.
+    /// Returns the pairs of a map, each a key and its value, in order. A value of another kind has no pairs.
+    /// Allocates no memory.
     ///
     /// Source: MessagePack specification, "map format family".
     #[tactic(auto, unfolding(crate::specs::Reading::pairs_at))]

@@ -6,8 +6,8 @@ ghost use Rattle.serf_pack.specs.Reading.{value_at, items_at, pairs_at};
 use crate::skip::skip;
 use crate::view::View;
 
-/// The items of an array that haven't been read yet, in order. [`View::items`] makes this iterator. A step
-/// reads one item once and allocates no memory; after the last item, every step returns `None`.
+/// The items of an array that haven't been read yet, in order. [`View::items`] makes this iterator. Each step
+/// reads one item once and allocates no memory. After the last item, every step returns `None`.
 #[derive(Clone, Copy, Debug)]
 pub struct Items<'a> {
     // The input from the next item to its end.
@@ -24,8 +24,8 @@ pub struct Items<'a> {
 }
 
 /// The pairs of a map that haven't been read yet, in order, each a key and its value. [`View::pairs`] makes
-/// this iterator. A step reads one pair once and allocates no memory; after the last pair, every step returns
-/// `None`.
+/// this iterator. Each step reads one pair once and allocates no memory. After the last pair, every step
+/// returns `None`.
 #[derive(Clone, Copy, Debug)]
 pub struct Pairs<'a> {
     // The input from the next key to its end.
@@ -41,7 +41,7 @@ pub struct Pairs<'a> {
     pub ghost checked: { is_ok (pairs_at (value_at depth_left total) left rest.now) ≡ true },
 }
 
-/// The part of `bytes` after the first `len` bytes.
+/// Returns the part of `bytes` after the first `len` bytes.
 #[inline(always)]
 fn after(bytes: &[u8], len: usize) -> &[u8]
     requires { len ≤ length bytes.now }
@@ -57,7 +57,8 @@ impl<'a> Items<'a> {
     ghost use Rattle.serf_pack.specs.Walk.{items_bytes, items_left, PacksAlone};
     ghost use Rattle.serf_pack.specs.Reading.{items_or_none};
 
-    /// The first `left` items of `rest`, which were checked. `rest` is the end of an input of `total` bytes.
+    /// Returns the first `left` items of `rest`, which were checked. `rest` is the end of an input of `total`
+    /// bytes.
     #[tactic(auto, unfolding(crate::specs::Walk::items_left))]
     #[inline]
     pub(crate) fn new(rest: &'a [u8], total: usize, depth_left: u64, left: u64) -> Items<'a>
@@ -76,7 +77,7 @@ impl<'a> Items<'a> {
         }
     }
 
-    /// An iterator without items. Allocates no memory.
+    /// Returns an iterator without items. Allocates no memory.
     #[tactic(auto, unfolding(crate::specs::Reading::items_at))]
     #[inline(always)]
     pub fn none() -> Items<'a>
@@ -85,7 +86,7 @@ impl<'a> Items<'a> {
         Items::new(b"", 0, 0, 0)
     }
 
-    /// The input from the next item to its end. Allocates no memory.
+    /// Returns the input from the next item to its end. Allocates no memory.
     #[tactic(auto, unfolding(crate::specs::Walk::items_bytes))]
     #[inline]
     pub fn bytes(&self) -> &'a [u8]
@@ -94,7 +95,7 @@ impl<'a> Items<'a> {
         self.rest
     }
 
-    /// How many items haven't been read yet. Allocates no memory.
+    /// Returns how many items haven't been read yet. Allocates no memory.
     #[inline]
     pub fn left(&self) -> u64
         ensures { result ≡ length (items_left self.now) }
@@ -102,10 +103,10 @@ impl<'a> Items<'a> {
         self.left
     }
 
-    /// The items after the next one, for a caller that knows that the next item is the first `len` bytes of
-    /// [`Items::bytes`]. These bytes must pack a value by themselves, at every place in an input. This step
-    /// doesn't read the item again. The bytes that follow it are the [`Items::bytes`] of the result. Returns
-    /// `None` after the last item. Allocates no memory.
+    /// Returns the items after the next one, without reading the next item again. The caller must know that
+    /// the next item is the first `len` bytes of [`Items::bytes`]. These bytes must pack a value by
+    /// themselves, at every place in an input. The bytes after them are the [`Items::bytes`] of the result.
+    /// Returns `None` after the last item. Allocates no memory.
     #[tactic(auto, unfolding(crate::specs::Walk::items_bytes))]
     #[inline]
     pub fn following(&self, len: usize) -> Option<Items<'a>>
@@ -135,7 +136,8 @@ impl<'a> Pairs<'a> {
     ghost use Rattle.serf_pack.specs.Walk.{pairs_left};
     ghost use Rattle.serf_pack.specs.Reading.{pairs_or_none};
 
-    /// The first `left` pairs of `rest`, which were checked. `rest` is the end of an input of `total` bytes.
+    /// Returns the first `left` pairs of `rest`, which were checked. `rest` is the end of an input of `total`
+    /// bytes.
     #[tactic(auto, unfolding(crate::specs::Walk::pairs_left))]
     #[inline]
     pub(crate) fn new(rest: &'a [u8], total: usize, depth_left: u64, left: u64) -> Pairs<'a>

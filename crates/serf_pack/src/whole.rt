@@ -12,10 +12,11 @@ use crate::error::PackError;
 use crate::skip::skip;
 use crate::view::View;
 
-/// How deep arrays and maps may be nested.
+/// The maximum depth of nested arrays and maps.
 const MAX_NESTING: u64 = 8;
 
-/// A view of the one value that `bytes` spell, or the first error that a reading from left to right finds.
+/// Returns a view of the one value that `bytes` spell, or the first error that is found when the bytes are
+/// read from left to right.
 #[tactic(auto, unfolding(crate::specs::Reading::whole_at))]
 #[inline(always)]
 fn read_whole(bytes: &[u8]) -> Result<View<'_>, PackError>
@@ -32,8 +33,8 @@ fn read_whole(bytes: &[u8]) -> Result<View<'_>, PackError>
     })
 }
 
-/// Returns a view of the one value that `bytes` spell, or the first error in reading order, with its offset
-/// in bytes from the start. The error of a value at some place is the first of these:
+/// Returns a view of the one value that `bytes` spell, or the first error in reading order. The offset of the
+/// error is in bytes from the start. The error of a value at some place is the first of these:
 ///
 /// 1. `Truncated`, if the bytes end there;
 /// 2. `Unsupported`, if no format of the profile begins with its first byte;
@@ -61,8 +62,8 @@ pub fn check(bytes: &[u8]) -> Result<View<'_>, PackError>
     read_whole(bytes)
 }
 
-/// A view of the one value that `bytes` spell, for a caller that knows that they spell one. The result is
-/// that of [`check`], but the bytes aren't read again. Allocates no memory.
+/// Returns a view of the one value that `bytes` spell. The caller must know that they spell one. The result
+/// is the same as that of [`check`], but the bytes aren't read again. Allocates no memory.
 pub fn view_packed(bytes: &[u8]) -> View<'_>
     requires packed { (v : Tree) × Packs v 0 0 bytes.now }
     ensures { (v : Tree) → Packs v 0 0 bytes.now → tree_of result ≡ v }

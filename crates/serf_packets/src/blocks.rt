@@ -1,5 +1,5 @@
-//! Encodes texts in bulk: answers each block, which is the lines between two empty lines, with the packet of its
-//! message in hex.
+//! Encodes texts in bulk. A block consists of the lines between two empty lines. The answer to a block is the packet of
+//! the block's message, in hex.
 
 ghost use Rattle.std.specs.Prelude.{◌≡◌, ◌++◌, ◌<◌, ◌↔◌, [], Ok, List, ℕ, IfErr, IfOk, OnOk, IsTrue, length};
 ghost use Rattle.std.specs.Io.KnownBytes.{Appends, Consumes, IsAtEnd};
@@ -15,21 +15,22 @@ use serf_text::{
 use std::alloc::{AllocError, Global};
 use std::io::{Read, Write};
 
-/// The error of a line of texts. It never occurs, because a text that isn't the text of a message is answered too.
+/// The error of a line in a stream of texts. This error never occurs, because even a text that isn't the text of a
+/// message gets an answer.
 #[derive(Clone, Copy, Debug, PartialEq, Eq)]
 pub struct NeverBad;
 
-/// How the texts of a stream were answered.
+/// The outcome of answering the texts in a stream.
 #[derive(Clone, Copy, Debug, PartialEq, Eq)]
 pub struct Blocks {
     /// Whether a text was refused.
     pub is_refused: bool,
-    /// Whether the stream ends within a line, so that the text before its end has no answer.
+    /// Whether the stream ends within a line, so that the last text in the stream has no answer.
     pub is_cut: bool,
 }
 
-/// Appends to `out` the answer to `text`: its packet in hex, or `refused BadLine N`. Returns whether the text is
-/// refused.
+/// Appends to `out` the answer to `text`: the packet of the text in hex, or `refused BadLine N`. Returns whether the
+/// text is refused.
 fn write_answer(alloc: Global, text: &[u8], out: &mut Vec<u8>) -> Result<bool, AllocError>
     ensures text { OnOk result (out.new.items ≡ out.old.items ++ answer_text (encoded text.now)) }
     ensures refused { IfOk result (λ refused. refused ≡ is_error (encoded text.now)) }
@@ -49,8 +50,8 @@ fn write_answer(alloc: Global, text: &[u8], out: &mut Vec<u8>) -> Result<bool, A
     Ok(refused)
 }
 
-/// Appends to `out` the answer to `block`, the lines of a text, or nothing if `block` is empty. Returns whether the
-/// text is refused.
+/// Appends to `out` the answer to `block`, which contains the lines of a text. If `block` is empty, appends nothing.
+/// Returns whether the text is refused.
 fn write_block(alloc: Global, block: &[u8], out: &mut Vec<u8>) -> Result<bool, AllocError>
     ensures text { OnOk result (out.new.items ≡ out.old.items ++ block_answer block.now) }
     ensures refused { IfOk result (λ refused. refused ≡ refuses_block block.now) }
@@ -61,8 +62,8 @@ fn write_block(alloc: Global, block: &[u8], out: &mut Vec<u8>) -> Result<bool, A
     write_answer(alloc, block, out)
 }
 
-/// Collects the lines of a text in `block`, and answers the text at the empty line after it. `is_refused` says whether
-/// a text was refused so far.
+/// Collects the lines of a text in `block`, and answers the text when an empty line follows. `is_refused` is true if
+/// any text was refused so far.
 #[derive(Drop)]
 struct BlockLines {
     block: Vec<u8>,
@@ -75,12 +76,13 @@ impl LineJob for BlockLines {
 
     type OwnError = NeverBad;
 
-    // After some lines, the job has the block since the last empty line, and knows whether an earlier text was refused.
+    // At any point, the job has collected the lines since the last empty line, and records whether any earlier text was
+    // refused.
     ghost follows = { λ job lines. reading_held job.block.items job.is_refused ≡ reading_of lines };
 
     ghost answer = { line_answer };
 
-    /// Adds `line` to the block. But if `line` is empty, writes the answer to the block to `text` and begins a new
+    /// If `line` is empty, writes the block's answer to `text`, and begins a new block. Otherwise, adds `line` to the
     /// block.
     fn read_line(
         &mut self,
@@ -106,26 +108,29 @@ impl LineJob for BlockLines {
     }
 }
 
-/// Reads texts of messages, with an empty line after each, and writes the answer to each: its canonical packet in hex
-/// as [`encode_text`] returns it, or `refused BadLine N` instead. N is the number of a line in the text, counted from
-/// 1.
+/// Reads the texts of messages, each followed by an empty line, and writes an answer to each text. The answer is the
+/// canonical packet in hex, as [`encode_text`] returns it, or `refused BadLine N`. N is the number of the first wrong
+/// line in the text, counted from 1.
 ///
-/// An empty line without a text before it has no answer, and the end of the stream is the end of a line. The answers
-/// to all complete texts are written before more is read. A line may have up to 16,777,216 bytes, and there may be any
-/// number of texts.
+/// If no text precedes an empty line, the empty line has no answer. The bytes after the last newline in the stream are
+/// also a line. If there are no bytes after the last newline, this last line is empty, and ends the last text. Before
+/// the function reads more bytes, it writes the answers to all complete texts. A line may be up to 16,777,216 bytes
+/// long, and the stream may contain any number of texts.
 pub fn encode_blocks<R: Read, W: Write>(
     alloc: Global,
     reader: &mut R,
     writer: &mut W,
 ) -> Result<Blocks, StreamError<NeverBad>>
-    // The answers to all blocks were written, and nothing else. Each answer depends only on its own block.
+    // If the function succeeds, it has written the answers to all blocks, and nothing else. Each answer depends only on
+    // its own block.
     ensures done { IfOk result (λ blocks. (bytes text : List ℕ)
         × Consumes (R.remaining reader.old) (R.remaining reader.new) bytes
         × IsAtEnd (R.remaining reader.new) × (text_after line_answer [] (lines_of bytes) ≡ Ok text)
         × Appends (W.contents writer.old) (W.contents writer.new) text
         × (blocks.is_refused ≡ (reading_of (lines_of bytes)).is_refused)
         × (IsTrue blocks.is_cut ↔ 0 < length (reading_of (lines_of bytes)).block)) }
-    // Some of the lines that were read were answered. What else holds for them depends on the error.
+    // If the function returns an error, it has answered some of the lines that it read. Which further guarantees hold
+    // depends on the error.
     ensures stopped { IfErr result (λ error. (bytes : List ℕ)
         × Consumes (R.remaining reader.old) (R.remaining reader.new) bytes
         × IsStopped line_answer error (lines_of bytes) (W.contents writer.old)

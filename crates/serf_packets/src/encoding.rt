@@ -1,4 +1,5 @@
-//! Encodes the text of a message: returns its canonical packet, if this packet is decoded to exactly the same text.
+//! Encodes the text of a message: if the message's canonical packet decodes to exactly the same text, returns the
+//! packet.
 
 ghost use Rattle.std.specs.Prelude.{◌≡◌, ◌+◌, ◌≤◌, ◌==◌, ℕ, Ok, Err, IfOk, codes, filter, length, take};
 ghost use Rattle.std.specs.Option.{option_map};
@@ -14,12 +15,12 @@ use serf_text::{DecodeTextError, decode_text};
 use std::alloc::{AllocError, Global};
 use thiserror::Error;
 
-/// Why a text wasn't encoded.
+/// The reason why a text wasn't encoded.
 #[derive(Clone, Copy, Debug, PartialEq, Eq, Error)]
 pub enum EncodeTextError {
     /// The text isn't the text of a canonical packet. The value is the number of the first wrong line, counted from 1.
-    /// This line differs from the text of the canonical packet of the message that the lines mean. The number is 1 if
-    /// they mean no message.
+    /// A line is wrong if it differs from the corresponding line in the text of the intended message's canonical
+    /// packet. If the lines describe no message, the number is 1.
     #[error("line {0} differs from the text of the message's canonical packet")]
     BadLine(u64),
     /// Memory ran out.
@@ -27,7 +28,7 @@ pub enum EncodeTextError {
     OutOfMemory,
 }
 
-/// Returns how many bytes `text` and `other` have in common at their beginning.
+/// Returns the length of the longest common prefix of `text` and `other`.
 #[tactic(auto, using(crate::proofs::ListLaws::common_nothing))]
 fn common_len(text: &[u8], other: &[u8]) -> usize
     ensures count { result ≡ common text.now other.now }
@@ -40,7 +41,7 @@ fn common_len(text: &[u8], other: &[u8]) -> usize
     len
 }
 
-/// Returns how many newlines `text` has.
+/// Returns the number of newlines in `text`.
 fn count_newlines(text: &[u8]) -> usize
     ensures within { result ≤ length text.now }
     ensures count { result ≡ length (filter (λ b. b == 10) text.now) }
@@ -48,7 +49,7 @@ fn count_newlines(text: &[u8]) -> usize
     text.iter().filter(|b| **b == b'\n').count()
 }
 
-/// Returns the number of the first line of `text`, counted from 1, in which it differs from `other`.
+/// Returns the number, counted from 1, of the first line in which `text` differs from `other`.
 fn first_other_line(text: &[u8], other: &[u8]) -> u64
     ensures { result ≡ other_line text.now other.now }
 {
@@ -56,7 +57,7 @@ fn first_other_line(text: &[u8], other: &[u8]) -> u64
     count_newlines(&text[..len]) as u64 + 1
 }
 
-/// Returns the text that `packet` is decoded to, or no bytes if the packet is refused.
+/// Returns the text to which `packet` decodes, or no bytes if the packet is refused.
 fn text_of_packet(alloc: Global, packet: &[u8]) -> Result<Vec<u8>, AllocError>
     ensures { IfOk result (λ text. text.items ≡ said_by (text_or_error (decoded packet.now))) }
 {
@@ -67,8 +68,8 @@ fn text_of_packet(alloc: Global, packet: &[u8]) -> Result<Vec<u8>, AllocError>
     }
 }
 
-/// Returns the packet of `text`, or the first line that differs. [`encode_text`] returns the same, but promises more
-/// about it.
+/// Returns the packet of `text`, or the number of the first line that differs. [`encode_text`] returns the same result,
+/// but its contract states more.
 #[tactic(auto, unfolding(crate::specs::Encoded::encoded))]
 fn encode_exactly(alloc: Global, text: &[u8]) -> Result<Vec<u8>, EncodeTextError>
     ensures packet { IfOk result (λ packet. encoded text.now ≡ Ok packet.items) }
@@ -92,17 +93,18 @@ fn encode_exactly(alloc: Global, text: &[u8]) -> Result<Vec<u8>, EncodeTextError
 
 /// Returns the canonical packet of the message whose text is `text`, as [`serf_text::decode_text`] writes it.
 ///
-/// The result is `BadLine` if `text` isn't the text of a message. It is also `BadLine` if the canonical packet of the
-/// message has another text: a push/pull may have a slot with a time but without events, which is nil in the canonical
-/// packet. If `text` is what a canonical packet is decoded to, the result is this packet ([`crate::know_texts_taken`]).
+/// The result is `BadLine` if `text` isn't the text of a message. The result is also `BadLine` if the text of the
+/// message's canonical packet differs from `text`. For example, a slot with a time but without events is nil in the
+/// canonical packet of a push/pull. If a canonical packet decodes to `text`, the result is that packet
+/// ([`crate::know_texts_taken`]).
 #[tactic(auto, using(crate::proofs::TakenLaws::decodes_to_text, crate::proofs::TakenLaws::is_canonical))]
 pub fn encode_text(alloc: Global, text: &[u8]) -> Result<Vec<u8>, EncodeTextError>
-    // The packet, or the first line that prevents one, is that of the definition.
+    // The result is the packet or the number of the first wrong line, as the definition states.
     ensures packet { IfOk result (λ packet. encoded text.now ≡ Ok packet.items) }
     ensures refused { (line : ℕ) → result ≡ Err (BadLine line) → encoded text.now ≡ Err line }
-    // The packet is decoded to exactly this text,
+    // The packet decodes to exactly this text.
     ensures text { IfOk result (λ packet. text_or_error (decoded packet.items) ≡ Ok text.now) }
-    // and it is canonical.
+    // The packet is canonical.
     ensures canonical { IfOk result (λ packet. (m : Message) × (packet.items ≡ canonical m)) }
 {
     encode_exactly(alloc, text)

@@ -1,27 +1,30 @@
-//! Recognizes packets of memberlist, the library below Serf: its own messages, and those that contain messages of Serf.
+//! Recognizes packets of memberlist, the library on which Serf is built. Some of these packets are memberlist's own
+//! messages, and others contain Serf's messages.
 
 ghost use Rattle.std.specs.Prelude.{◌≡◌};
 ghost use Rattle.serf_packets.specs.Framing.{framing_in, has_text as has_text_in, own_in};
 
-/// The kind of a message of memberlist, as its first byte says (see memberlist's `net.go`). All kinds but `Probe` and
-/// `Rumour` contain other messages.
+/// The kind of a memberlist message. The first byte of the message determines the kind (see memberlist's `net.go`).
+/// Messages of all kinds except `Probe` and `Rumour` contain other messages.
 #[derive(Clone, Copy, Debug, PartialEq, Eq)]
 pub enum Framing {
-    /// 0 to 2, with the key `SeqNo` somewhere after this byte: a ping, an indirect ping or an ack.
+    /// A ping, an indirect ping or an ack: the first byte is 0, 1 or 2, and the key `SeqNo` follows somewhere.
     Probe,
-    /// 3 to 5, with the key `Incarnation` somewhere after this byte: a message that a node is suspect, alive or dead.
+    /// A message which reports that a node is suspect, alive or dead: the first byte is 3, 4 or 5, and the key
+    /// `Incarnation` follows somewhere.
     Rumour,
-    /// 7: several messages in one packet.
+    /// A packet that contains several messages: the first byte is 7.
     Compound,
-    /// 8: a message of Serf follows this byte.
+    /// A packet that contains a message of Serf: the first byte is 8, and the message follows.
     User,
-    /// 9: a compressed message follows this byte.
+    /// A packet that contains a compressed message: the first byte is 9, and the message follows.
     Compressed,
-    /// 12: a checksum follows this byte, and then the message.
+    /// A packet that contains a message with a checksum: the first byte is 12, and the checksum and then the message
+    /// follow.
     Checksum,
 }
 
-/// Whether `text` occurs somewhere in `bytes`.
+/// Returns whether `text` occurs somewhere in `bytes`.
 fn has_text(text: &[u8], bytes: &[u8]) -> bool
     ensures { result ≡ has_text_in text.now bytes.now }
 {
@@ -37,8 +40,8 @@ fn has_text(text: &[u8], bytes: &[u8]) -> bool
     }
 }
 
-/// Returns `framing` if `rest`, a packet without its first byte, has the `key` that all messages of this kind have, and
-/// `None` otherwise.
+/// Returns `framing` if `rest`, a packet without its first byte, contains `key`, which occurs in all messages of this
+/// kind. Otherwise, returns `None`.
 fn own_of(framing: Framing, key: &[u8], rest: &[u8]) -> Option<Framing>
     ensures { result ≡ own_in framing key.now rest.now }
 {
@@ -49,12 +52,17 @@ fn own_of(framing: Framing, key: &[u8], rest: &[u8]) -> Option<Framing>
     }
 }
 
-/// Returns the kind of memberlist message that `packet` begins like, if any. This is the case if its first byte is 7, 9
-/// or 12, if its first byte is 8 and the type of a Serf message (0 to 9) follows, or if its first byte is 0 to 5 and a
-/// key follows that all messages of memberlist of this type have.
+/// Returns the kind of memberlist message that `packet` seems to be, or `None` for any other packet. A packet seems to
+/// be a memberlist message in each of the following cases:
 ///
-/// Serf's own messages also have the types 0 to 5, 7, 8 and 9, so a packet of Serf may be mistaken for one of
-/// memberlist: a key response, a relay, or a packet with that key in a name or a payload. Allocates no memory.
+/// - The first byte of the packet is 7, 9 or 12.
+/// - The first byte of the packet is 8, and the next byte is the type of a Serf message (0 to 9).
+/// - The first byte of the packet is at most 5, and the packet contains the key that all memberlist messages of this
+///   type contain.
+///
+/// Serf's own messages also have the types 0 to 5, 7, 8 and 9, so a Serf packet may be mistaken for a memberlist
+/// packet. This mistake is possible for a key response, a relay, and a packet in which a name or a payload contains the
+/// key. Allocates no memory.
 pub fn framing_of(packet: &[u8]) -> Option<Framing>
     ensures { result ≡ framing_in packet.now }
 {

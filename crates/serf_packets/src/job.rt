@@ -1,4 +1,4 @@
-//! Decodes packets in bulk: answers each line of hex with the text of its packet's message.
+//! Decodes packets in bulk: each line contains a packet in hex, and the answer is the text of the packet's message.
 
 ghost use Rattle.std.specs.Prelude.{◌≡◌, ◌++◌, [], Ok, List, ℕ, IfErr, IfOk, OnOk, codes};
 ghost use Rattle.std.specs.List.{list_any};
@@ -18,20 +18,20 @@ use std::alloc::{AllocError, Global};
 use std::io::{Read, Write};
 use thiserror::Error;
 
-/// A line is not hex: it has a byte that isn't a hex digit, or an odd number of digits.
+/// A line is not hex, because it contains a byte that isn't a hex digit, or an odd number of digits.
 #[derive(Clone, Copy, Debug, PartialEq, Eq, Error)]
 #[error("the line is not hex")]
 pub struct BadHex;
 
-/// A hook that is called for each packet that begins like a message of memberlist. It can't change any answer.
+/// A hook that is called for each packet that begins like a memberlist message. The hook can't change any answer.
 pub trait FramingNotes {
-    /// Reports that the packet on line number `line`, counted from 1, begins like a message of the kind `framing`. The
-    /// number stops at 2^64 - 1.
+    /// Reports that the packet on line number `line`, counted from 1, begins like a memberlist message of the kind
+    /// `framing`. The line number saturates at 2^64 - 1.
     fn framed(&mut self, line: u64, framing: Framing);
 }
 
-/// Appends to `out` the answer to a packet that is refused: a line `refused` with the error of the packet, `words`, and
-/// then an empty line.
+/// Appends to `out` the answer to a packet that is refused: a line with the word `refused` and the packet's error
+/// (`words`), followed by an empty line.
 fn write_refusal(alloc: Global, words: WireWords, out: &mut Vec<u8>) -> Result<(), AllocError>
     ensures { OnOk result (out.new.items ≡ out.old.items
         ++ (codes "refused " ++ wire_text words.error ++ codes "\n\n")) }
@@ -40,8 +40,8 @@ fn write_refusal(alloc: Global, words: WireWords, out: &mut Vec<u8>) -> Result<(
     out.extend_from_slice(text.as_bytes())
 }
 
-/// Appends to `out` the answer to `packet`: its text or its refusal, and then an empty line. Returns whether the packet
-/// is refused.
+/// Appends to `out` the answer to `packet`: the text or the refusal of the packet, followed by an empty line. Returns
+/// whether the packet is refused.
 fn write_answer(alloc: Global, packet: &[u8], out: &mut Vec<u8>) -> Result<bool, AllocError>
     ensures text { OnOk result (out.new.items ≡ out.old.items ++ packet_answer packet.now) }
     ensures refused { IfOk result (λ refused. refused ≡ is_refused (decoded packet.now)) }
@@ -60,8 +60,8 @@ fn write_answer(alloc: Global, packet: &[u8], out: &mut Vec<u8>) -> Result<bool,
     }
 }
 
-/// Answers lines of hex, and reports packets of memberlist to `notes`. `number` is the number of the next line, counted
-/// from 1, and `is_refused` says whether a packet was refused so far.
+/// Answers lines of hex, and reports memberlist packets to `notes`. `number` is the next line's number, counted from 1,
+/// and `is_refused` is true if any packet was refused so far.
 #[derive(Drop)]
 struct PacketLines<'a, N> {
     notes: &'a mut N,
@@ -76,12 +76,12 @@ impl<N: FramingNotes> LineJob for PacketLines<'_, N> {
 
     type OwnError = BadHex;
 
-    // After some lines, the job knows whether one of their packets was refused.
+    // At any point, the job records whether a packet on one of the lines so far was refused.
     ghost follows = { λ job lines. job.is_refused ≡ list_any refuses_line lines };
 
     ghost answer = { line_answer };
 
-    /// Writes the answer to `line`, a packet in hex, to `text`, which is empty before.
+    /// Answers `line`, which contains a packet in hex, by writing to `text`, which is empty before the call.
     fn read_line(
         &mut self,
         alloc: Global,
@@ -111,26 +111,29 @@ impl<N: FramingNotes> LineJob for PacketLines<'_, N> {
     }
 }
 
-/// Reads packets in hex, one on each line, and writes the answer to each: the text of its message as
-/// [`serf_text::decode_text`] returns it, or a line `refused FAULT` instead, and then an empty line. A line without
-/// bytes has no answer. The value in `Ok` says whether a packet was refused. `notes` is called for each packet that
-/// begins like a message of memberlist.
+/// Reads packets in hex, one on each line, and writes an answer to each packet. The answer is the text of the packet's
+/// message, as [`serf_text::decode_text`] returns it, or a line `refused FAULT`. An empty line follows each answer. An
+/// empty line has no answer. The value in `Ok` is true if any packet was refused. The function calls `notes` for each
+/// packet that begins like a memberlist message.
 ///
-/// The answers to all complete lines are written before more is read. A line may have up to 16,777,216 bytes, and there
-/// may be any number of lines. A line that is not hex ends the reading, after the answers to the lines before it.
+/// Before the function reads more bytes, it writes the answers to all complete lines. A line may be up to 16,777,216
+/// bytes long, and there may be any number of lines. If a line is not hex, the function answers the lines before it and
+/// then stops.
 pub fn decode_lines<R: Read, W: Write, N: FramingNotes>(
     alloc: Global,
     reader: &mut R,
     writer: &mut W,
     notes: &mut N,
 ) -> Result<bool, StreamError<BadHex>>
-    // The answers to all lines were written, and nothing else. Each answer depends only on its own line.
+    // If the function succeeds, it has written the answers to all lines, and nothing else. Each answer depends only on
+    // its own line.
     ensures done { IfOk result (λ is_refused. (bytes text : List ℕ)
         × Consumes (R.remaining reader.old) (R.remaining reader.new) bytes
         × IsAtEnd (R.remaining reader.new) × (text_after line_answer [] (lines_of bytes) ≡ Ok text)
         × Appends (W.contents writer.old) (W.contents writer.new) text
         × (is_refused ≡ list_any refuses_line (lines_of bytes))) }
-    // Some of the lines that were read were answered. What else holds for them depends on the error.
+    // If the function returns an error, it has answered some of the lines that it read. Which further guarantees hold
+    // depends on the error.
     ensures stopped { IfErr result (λ error. (bytes : List ℕ)
         × Consumes (R.remaining reader.old) (R.remaining reader.new) bytes
         × IsStopped line_answer error (lines_of bytes) (W.contents writer.old)

@@ -1,5 +1,6 @@
-//! Decodes and encodes packets in bulk. Decoding reads packets in hex, one on each line, and writes the text of each.
-//! Encoding reads texts of messages, and writes the canonical packet of each (docs/SPEC.md, "The text of a packet").
+//! Decodes and encodes packets in bulk. Decoding reads packets in hex, one on each line, and writes the text of each
+//! packet. Encoding reads the texts of messages, and writes the canonical packet of each message (docs/SPEC.md, "The
+//! text of a packet").
 #![tactic(auto)]
 
 mod blocks;

@@ -1,5 +1,5 @@
-//! Reads the values of fields. A bad value counts as 0 or as empty. The text is refused later, when it is compared with
-//! the text of the packet.
+//! Reads the values of fields. A bad value is read as 0 or as empty. A text with a bad value is refused later, when the
+//! text is compared with the text of the packet.
 
 ghost use Rattle.std.specs.Prelude.{◌≡◌, ◌≤◌, ◌<◌, ◌++◌, ◌∷◌, [], ℤ, pos, IfOk, OnOk, Some, map, filter};
 ghost use Rattle.std.specs.Str.{bytes_eq};
@@ -15,7 +15,7 @@ use serf_text::number;
 use serf_wire::Bytes;
 use std::alloc::{AllocError, Global};
 
-/// Returns the number that `word` says in decimal, or 0 if `word` isn't a number or the number is above `top`.
+/// Reads `word` as a decimal number. Returns 0 if `word` isn't a number, or if the number is above `top`.
 pub(crate) fn number_to(word: &[u8], top: u64) -> u64
     ensures said { result ≡ number_up_to top word.now }
     ensures within { result ≤ top }
@@ -26,18 +26,18 @@ pub(crate) fn number_to(word: &[u8], top: u64) -> u64
     }
 }
 
-/// Returns the Lamport time that `word` says in decimal, or 0 if `word` isn't a Lamport time.
+/// Reads `word` as a Lamport time in decimal. Returns 0 if `word` isn't a Lamport time.
 pub(crate) fn time_in(word: &[u8]) -> Time
     ensures { result ≡ number_up_to last_time word.now }
 {
     match Time::new(number_to(word, u64::MAX - 1)) {
         Some(time) => time,
-        // A number below 2^64 - 1 is a time.
+        // Every number below 2^64 - 1 is a Lamport time.
         None => unreachable!(),
     }
 }
 
-/// Returns the number -`n` if it fits into 64 bits with a sign, and 0 otherwise.
+/// Returns -`n` if that number fits into a signed 64-bit integer, and 0 otherwise.
 fn negated(n: u64) -> i64
     ensures { result ≡ below_zero n }
 {
@@ -47,8 +47,8 @@ fn negated(n: u64) -> i64
     -1 - ((n - 1) as i64)
 }
 
-/// Returns the number that `word` says in decimal, with or without a minus sign. Returns 0 if `word` isn't a number, or
-/// if the number doesn't fit into 64 bits with a sign.
+/// Reads `word` as a decimal number, with or without a minus sign. Returns 0 if `word` isn't a number, or if the number
+/// doesn't fit into a signed 64-bit integer.
 pub(crate) fn signed_in(word: &[u8]) -> i64
     ensures { result ≡ signed_meant word.now }
 {
@@ -58,7 +58,7 @@ pub(crate) fn signed_in(word: &[u8]) -> i64
     }
 }
 
-/// Returns the bytes that `word` says in hex, or no bytes if `word` is `-` or isn't hex.
+/// Reads `word` as bytes in hex. Returns no bytes if `word` is `-` or isn't hex.
 pub(crate) fn bytes_in(alloc: Global, word: &[u8]) -> Result<Bytes, AllocError>
     ensures { IfOk result (λ bytes. bytes ≡ bytes_meant word.now) }
 {
@@ -72,7 +72,8 @@ pub(crate) fn bytes_in(alloc: Global, word: &[u8]) -> Result<Bytes, AllocError>
     }
 }
 
-/// Returns the number that the field `name` has in `rows`, or 0 if it has no number or one above `top`.
+/// Returns the number that the field `name` in `rows` contains. Returns 0 if the field has no number, or if the number
+/// is above `top`.
 pub(crate) fn number_field(rows: &[Row], name: &[u8], top: u64) -> u64
     ensures said { result ≡ number_at top name.now (map row_seen rows.now) }
     ensures within { result ≤ top }
@@ -80,14 +81,15 @@ pub(crate) fn number_field(rows: &[Row], name: &[u8], top: u64) -> u64
     number_to(value(rows, name), top)
 }
 
-/// Returns the bytes that the field `name` has in `rows`, or no bytes if it has no row or its value isn't hex.
+/// Returns the bytes that the field `name` in `rows` contains. Returns no bytes if the field has no row, or if the
+/// value of the field isn't hex.
 pub(crate) fn bytes_field(alloc: Global, rows: &[Row], name: &[u8]) -> Result<Bytes, AllocError>
     ensures { IfOk result (λ bytes. bytes ≡ bytes_at name.now (map row_seen rows.now)) }
 {
     bytes_in(alloc, value(rows, name))
 }
 
-/// Appends to `texts` the bytes that `row` has, if it is a row of the field `name`.
+/// If `row` is a row of the field `name`, appends the bytes in the row to `texts`.
 fn take_text(
     alloc: Global,
     texts: &mut Vec<Bytes>,
@@ -105,7 +107,7 @@ fn take_text(
     Ok(())
 }
 
-/// Returns the bytes that each row of the field `name` has, in order.
+/// Returns the bytes in each row of the field `name`, in order.
 pub(crate) fn texts_field(
     alloc: Global,
     rows: &[Row],

@@ -1,4 +1,4 @@
-//! Builds the canonical packet of the message that a text means, from the rows of the text.
+//! Builds, from the rows of a text, the canonical packet of the message that the text describes.
 
 ghost use Rattle.std.specs.Prelude.{◌≡◌, ◌∷◌, [], IfOk, MatchOption, Some, None, codes, map};
 ghost use Rattle.std.specs.Option.{option_map};
@@ -17,7 +17,8 @@ use serf_wire::{
 };
 use std::alloc::{AllocError, Global};
 
-/// Returns the canonical packet of the user event that `rows` mean. A missing or bad field counts as 0 or as empty.
+/// Returns the canonical packet of the user event that `rows` describe. A missing or bad field is read as 0 or as
+/// empty.
 #[tactic(auto, unfolding(crate::specs::Meant::event_meant))]
 fn event_packet(alloc: Global, rows: &[Row]) -> Result<Vec<u8>, EncodeError>
     ensures { IsPacketOf (λ p. p.items) result (event_meant (map row_seen rows.now)) }
@@ -33,7 +34,7 @@ fn event_packet(alloc: Global, rows: &[Row]) -> Result<Vec<u8>, EncodeError>
     encode_user_event(alloc, &event)
 }
 
-/// Returns the canonical packet of the query `parts`. This is a separate function because its clause is needed to prove
+/// Returns the canonical packet of the query `parts`. The function is separate because its clause is needed to prove
 /// [`query_packet`].
 fn write_query(alloc: Global, parts: &Query<&[Bytes]>) -> Result<Vec<u8>, EncodeError>
     ensures { IsPacketOf (λ p. p.items) result (query (query_of parts.now)) }
@@ -41,7 +42,7 @@ fn write_query(alloc: Global, parts: &Query<&[Bytes]>) -> Result<Vec<u8>, Encode
     encode_query(alloc, parts)
 }
 
-/// Returns the canonical packet of the query that `rows` mean. A missing or bad field counts as 0 or as empty.
+/// Returns the canonical packet of the query that `rows` describe. A missing or bad field is read as 0 or as empty.
 #[tactic(auto, unfolding(crate::specs::Meant::query_meant))]
 fn query_packet(alloc: Global, rows: &[Row]) -> Result<Vec<u8>, EncodeError>
     ensures { IsPacketOf (λ p. p.items) result (query (query_meant (map row_seen rows.now))) }
@@ -67,8 +68,8 @@ fn query_packet(alloc: Global, rows: &[Row]) -> Result<Vec<u8>, EncodeError>
     write_query(alloc, &parts)
 }
 
-/// Returns the canonical packet of the ack or the response that `rows` mean. A missing or bad field counts as 0 or as
-/// empty.
+/// Returns the canonical packet of the ack or the response that `rows` describe. A missing or bad field is read as 0 or
+/// as empty.
 #[tactic(auto, unfolding(crate::specs::Meant::response_meant))]
 fn response_packet(alloc: Global, rows: &[Row]) -> Result<Vec<u8>, EncodeError>
     ensures { IsPacketOf (λ p. p.items) result (response_meant (map row_seen rows.now)) }
@@ -85,8 +86,8 @@ fn response_packet(alloc: Global, rows: &[Row]) -> Result<Vec<u8>, EncodeError>
     encode_response(alloc, &response)
 }
 
-/// Returns the packet of a foreign message. It has one byte, the type of the message, which is in the row `foreign` of
-/// `rows`.
+/// Returns the packet of a foreign message. The packet consists of one byte, the type of the message, which the row
+/// `foreign` in `rows` contains.
 #[tactic(auto, unfolding(serf_wire::specs::Canonical::canonical, serf_wire::specs::Canonical::has_long))]
 fn foreign_packet(alloc: Global, rows: &[Row]) -> Result<Vec<u8>, EncodeError>
     ensures { IsPacketOf (λ p. p.items) result
@@ -96,8 +97,8 @@ fn foreign_packet(alloc: Global, rows: &[Row]) -> Result<Vec<u8>, EncodeError>
     Ok(Vec::from_slice(alloc, &[kind])?)
 }
 
-/// Returns the canonical packet of the message that `rows` mean, or `None` if `kind`, the name of the first row, isn't
-/// the name of a message.
+/// Returns the canonical packet of the message that `rows` describe. Returns `None` if `kind`, the name in the first
+/// row, isn't the name of a message.
 #[tactic(auto, unfolding(crate::specs::Meant::meant_by))]
 fn packet_of_kind(alloc: Global, kind: &[u8], rows: &[Row]) -> Option<Result<Vec<u8>, EncodeError>>
     ensures { MatchOption result (meant_by kind.now (map row_seen rows.now) ≡ None)
@@ -119,8 +120,8 @@ fn packet_of_kind(alloc: Global, kind: &[u8], rows: &[Row]) -> Option<Result<Vec
     }
 }
 
-/// Returns the canonical packet of the message that `text` means, or `None` if it means no message, or one that is too
-/// long for a packet.
+/// Returns the canonical packet of the message that `text` describes. Returns `None` if `text` describes no message, or
+/// if the message is too long for a packet.
 pub(crate) fn packet_of_text(alloc: Global, text: &[u8]) -> Result<Option<Vec<u8>>, AllocError>
     ensures { IfOk result (λ packet. option_map (λ p. p.items) packet ≡ packet_meant text.now) }
 {

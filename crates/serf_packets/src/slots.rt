@@ -1,4 +1,4 @@
-//! Builds the canonical packet of a push/pull from the rows of its text.
+//! Builds the canonical packet of a push/pull from the rows of the push/pull's text.
 
 ghost use Rattle.std.specs.Prelude.{◌≡◌, ◌++◌, ◌∷◌, [], IfOk, OnOk, Some, map};
 ghost use Rattle.std.specs.List.{fold};
@@ -17,14 +17,14 @@ use serf_wire::{
 };
 use std::alloc::{AllocError, Global};
 
-/// A member of a push/pull: its name, and the Lamport time of its status.
+/// A member in a push/pull, with the member's name and the Lamport time of its status.
 #[derive(Debug, Drop)]
 pub(crate) struct Member {
     pub(crate) name: Bytes,
     pub(crate) time: u64,
 }
 
-/// Appends to `members` the member that `row` names, if it is a `status` row (`status NAME TIME`).
+/// If `row` is a `status` row (`status NAME TIME`), appends the member that the row names to `members`.
 fn take_member(alloc: Global, members: &mut Vec<Member>, row: &Row) -> Result<(), AllocError>
     ensures { OnOk result (map member_held members.new.items ≡ map member_held members.old.items
         ++ members_of (row_seen row.now ∷ [])) }
@@ -38,7 +38,7 @@ fn take_member(alloc: Global, members: &mut Vec<Member>, row: &Row) -> Result<()
     Ok(())
 }
 
-/// Returns the members that the `status` rows of `rows` name, with their status times, in order.
+/// Returns, in order, the members that the `status` rows in `rows` name, together with the members' status times.
 fn members_in(alloc: Global, rows: &[Row]) -> Result<Vec<Member>, AllocError>
     ensures { IfOk result (λ members. map member_held members.items
         ≡ members_of (map row_seen rows.now)) }
@@ -68,7 +68,7 @@ fn borrow_members<'a>(
     Ok(status)
 }
 
-/// Borrows the bytes of each of `texts`, in the form that [`PushPullParts`] needs.
+/// Borrows the bytes of each text in `texts`, in the form that [`PushPullParts`] needs.
 fn borrow_texts<'a>(alloc: Global, texts: &'a [Bytes]) -> Result<Vec<&'a [u8]>, AllocError>
     ensures { IfOk result (λ borrowed. map (λ t. t.now) borrowed.items ≡ texts.entry.now) }
 {
@@ -79,7 +79,7 @@ fn borrow_texts<'a>(alloc: Global, texts: &'a [Bytes]) -> Result<Vec<&'a [u8]>, 
     Ok(borrowed)
 }
 
-/// Adds `event` to the last slot of `slots`. Does nothing if there is no slot.
+/// Adds `event` to the last slot in `slots`. If there is no slot, does nothing.
 #[tactic(auto, using(crate::proofs::ListLaws::last_changed))]
 fn add_event(slots: &mut Vec<Slot>, event: EventBody) -> Result<(), AllocError>
     ensures { OnOk result (map slot_content slots.new.items
@@ -94,8 +94,8 @@ fn add_event(slots: &mut Vec<Slot>, event: EventBody) -> Result<(), AllocError>
     Ok(())
 }
 
-/// Adds to `slots` what `row` says: `slot I TIME` begins a slot, and `event NAME PAYLOAD` adds an event to the last
-/// slot. `slot I nil` begins a slot of time 0. Any other row changes nothing.
+/// Applies `row` to `slots`. A row `slot I TIME` begins a slot, and a row `event NAME PAYLOAD` adds an event to the
+/// last slot. A row `slot I nil` begins a slot with the time 0. Any other row changes nothing.
 fn take_slot(alloc: Global, slots: &mut Vec<Slot>, row: &Row) -> Result<(), AllocError>
     ensures { OnOk result (map slot_content slots.new.items
         ≡ after_row (map slot_content slots.old.items) (row_seen row.now)) }
@@ -116,7 +116,7 @@ fn take_slot(alloc: Global, slots: &mut Vec<Slot>, row: &Row) -> Result<(), Allo
     }
 }
 
-/// Returns the slots that `rows` name, with their events, in order.
+/// Returns, in order, the slots that `rows` name, together with the slots' events.
 fn slots_in(alloc: Global, rows: &[Row]) -> Result<Vec<Slot>, AllocError>
     ensures { IfOk result (λ slots. map slot_content slots.items
         ≡ slots_meant (map row_seen rows.now)) }
@@ -128,7 +128,7 @@ fn slots_in(alloc: Global, rows: &[Row]) -> Result<Vec<Slot>, AllocError>
     Ok(slots)
 }
 
-/// Returns the canonical packet of the push/pull `parts`. This is a separate function because its clause is needed to
+/// Returns the canonical packet of the push/pull `parts`. The function is separate because its clause is needed to
 /// prove [`push_pull_packet`].
 fn write_push_pull(alloc: Global, parts: &PushPullParts) -> Result<Vec<u8>, EncodeError>
     ensures { IsPacketOf (λ p. p.items) result (push_pull (push_pull_of parts.now)) }
@@ -136,8 +136,8 @@ fn write_push_pull(alloc: Global, parts: &PushPullParts) -> Result<Vec<u8>, Enco
     encode_push_pull(alloc, parts)
 }
 
-/// Returns the canonical packet of the push/pull that `rows` mean. The packet has only the slots that `rows` name. A
-/// missing or bad field counts as 0 or as empty.
+/// Returns the canonical packet of the push/pull that `rows` describe. The packet contains only the slots that `rows`
+/// name. A missing or bad field is read as 0 or as empty.
 #[tactic(auto, unfolding(crate::specs::Meant::push_pull_meant))]
 pub(crate) fn push_pull_packet(alloc: Global, rows: &[Row]) -> Result<Vec<u8>, EncodeError>
     ensures { IsPacketOf (λ p. p.items) result

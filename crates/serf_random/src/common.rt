@@ -1,4 +1,4 @@
-//! Makes a complete random schedule that keeps to Serf's own rules, and its text.
+//! Makes a complete random schedule that keeps to Serf's own rules, together with its text.
 
 ghost use Rattle.std.specs.Prelude.{◌≡◌, ◌≤◌, ◌+◌, ◌++◌, [], true, ℕ, IfOk, List, Ok, OnOk, length};
 ghost use Rattle.serf_schedule.specs.Schedule.{parsed_of, schedule_of};
@@ -20,12 +20,13 @@ use serf_text::MAX_SCHEDULE_BYTES;
 use serf_world::{Roster, World};
 use std::alloc::{AllocError, Global};
 
-/// The maximum number of rounds in which actions are left out. More than one round is needed because the actions that
-/// are left may run differently than before, so that other turns may now rest on one of this project's own rules.
-/// (These rounds have nothing to do with rounds of gossip.)
+/// The maximum number of rounds in which actions are left out. One round may not be enough, because the remaining
+/// actions may run differently without the others. After a round, other turns than before may therefore rest on one of
+/// this project's own rules. (These rounds have nothing to do with rounds of gossip.)
 const ROUNDS: u64 = 8;
 
-/// Does `action` in `world`, whose agents have the settings `configs`, and appends it to `kept` if its turn is common.
+/// Performs `action` in `world`, whose agents have the settings `configs`. If the action's turn is common, appends the
+/// action to `kept`.
 fn keep_common(
     alloc: Global,
     configs: &[Config],
@@ -42,7 +43,7 @@ fn keep_common(
     Ok(())
 }
 
-/// The actions whose turns are common when `agents` do all of `actions`.
+/// Lets `agents` perform all of `actions`, and returns the actions whose turns were common.
 fn round(alloc: Global, agents: &Roster, actions: Vec<Action>) -> Result<Vec<Action>, AllocError>
     ensures few { IfOk result (λ kept. length kept.items ≤ length actions.items) }
 {
@@ -54,8 +55,8 @@ fn round(alloc: Global, agents: &Roster, actions: Vec<Action>) -> Result<Vec<Act
     Ok(kept)
 }
 
-/// The actions that are left after some rounds. Each round leaves out the actions whose turns aren't common.
-fn in_rounds(
+/// Returns the actions that remain after several rounds. Each round removes the actions whose turns aren't common.
+fn leave_out_in_rounds(
     alloc: Global,
     agents: &Roster,
     actions: Vec<Action>,
@@ -73,8 +74,8 @@ fn in_rounds(
     Ok(kept)
 }
 
-/// Appends `action` to `kept` and its line to `text`. Returns false, and appends neither, if the text would be too
-/// long.
+/// Appends `action` to `kept`, and the action's line to `text`. If the line would make the text too long, the function
+/// appends nothing and returns false.
 fn add_line(text: &mut Vec<u8>, kept: &mut Vec<Action>, action: Action) -> Result<bool, AllocError>
     ensures { IfOk result (λ added.
         MayAdd added action text.old.items text.new.items kept.old.items kept.new.items) }
@@ -89,8 +90,9 @@ fn add_line(text: &mut Vec<u8>, kept: &mut Vec<Action>, action: Action) -> Resul
     Ok(true)
 }
 
-/// Does `action` in `world`, whose agents have the settings `configs`, and appends it to `kept` and its line to `text`
-/// if its turn is common. Returns whether it was appended, and another action may follow only then.
+/// Performs `action` in `world`, whose agents have the settings `configs`. If the action's turn is common, appends the
+/// action to `kept`, and its line to `text`. Returns whether the action was appended. If the action wasn't appended, no
+/// other action may follow.
 fn add_turn(
     alloc: Global,
     configs: &[Config],
@@ -115,8 +117,8 @@ fn add_turn(
     add_line(text, kept, action)
 }
 
-/// Does `actions` with `agents`, and keeps those before the first whose turn isn't common or whose line would make the
-/// text too long. Appends the lines of the kept actions to `text`.
+/// Lets `agents` perform `actions`, up to the first action whose turn isn't common or whose line would make the text
+/// too long. Returns all actions before the one at which it stopped, and appends their lines to `text`.
 fn add_common(
     alloc: Global,
     agents: &Roster,
@@ -144,8 +146,9 @@ fn add_common(
     Ok(kept)
 }
 
-/// The `agents` with settings that Serf has too: no agent keeps its events over a restart, and each accepts at least as
-/// many events of the same time as by default. Appends their lines to `text`.
+/// Returns `agents` with settings that Serf also has: no agent keeps its events across a restart, and each agent
+/// accepts at least the default number of events with the same time. Appends the lines of the returned agents to
+/// `text`.
 fn add_serfs_agents(alloc: Global, text: &mut Vec<u8>, agents: Roster) -> Result<Roster, AllocError>
     ensures { IfOk result (λ roster. AddsAgents text.old.items text.new.items [] roster) }
 {
@@ -161,23 +164,24 @@ fn add_serfs_agents(alloc: Global, text: &mut Vec<u8>, agents: Roster) -> Result
     Ok(roster)
 }
 
-/// Makes a random schedule with the options `ask`, without the actions that rest on one of this project's own rules,
-/// and its text.
+/// Makes a random schedule from the options `ask`, together with its text. No turn of the schedule's run rests on one
+/// of this project's own rules.
 ///
-/// No agent keeps its events over a restart, and each accepts at least as many events of the same time as by default.
-/// The actions are those of [`random_schedule`], but in several rounds those are left out whose turns aren't common
-/// ([`serf_model::is_common_turn`]). If some turn still isn't common after that, its action and all later ones are left
-/// out.
+/// No agent keeps its events across a restart, and each agent accepts at least the default number of events with the
+/// same time. The actions are those of [`random_schedule`], except for the actions whose turns aren't common
+/// ([`serf_model::is_common_turn`]). The function removes these actions in several rounds. If some turn still isn't
+/// common after the last round, the function also removes its action and all later ones.
 ///
-/// The text begins with a comment that has the options and says which rules the schedule keeps to. The text reads back
-/// as exactly this schedule, so it is never refused. It has at most as many actions as requested, and at most
-/// 16,777,216 bytes. Returns an `AllocError` if memory runs out. Reports each action of [`random_schedule`] to `watch`.
+/// The text begins with a comment that lists the options and states which rules the schedule keeps to. The text parses
+/// to exactly this schedule, so the parser never refuses it. The schedule has at most `ask.actions` actions, and its
+/// text is at most 16,777,216 bytes long. The function reports each action of [`random_schedule`] to `watch`, and
+/// returns an `AllocError` if memory runs out.
 pub fn common_schedule<T: Watch>(
     alloc: Global,
     ask: &RandomOptions,
     watch: &mut T,
 ) -> Result<Made, AllocError>
-    // Each turn of its run is common.
+    // Each turn of the schedule's run is common.
     ensures common { IfOk result (λ made. AreCommon (parsed_of made.schedule)) }
     ensures reads_back { IfOk result (λ made. schedule_of made.text.items
         ≡ Ok (parsed_of made.schedule)) }
@@ -192,13 +196,13 @@ pub fn common_schedule<T: Watch>(
     let mut text = Vec::new(alloc);
     write_comment(&mut text, ask, true)?;
     let agents = add_serfs_agents(alloc, &mut text, agents)?;
-    let left = in_rounds(alloc, &agents, actions)?;
+    let left = leave_out_in_rounds(alloc, &agents, actions)?;
     let kept = add_common(alloc, &agents, left, &mut text)?;
     let schedule = Schedule {
         agents,
         actions: kept,
     };
-    // For the prover: the comment is skipped when the text is read, and the rest reads back as the schedule.
+    // For the prover: the parser skips the comment, and parses the rest of the text to the schedule.
     comments_skipped();
     know_numbers(ask);
     know_read_back(&schedule);

@@ -1,4 +1,5 @@
-//! A schedule and its text, which grow line by line, and the interface of what chooses the actions.
+//! Adds agents and actions to a schedule, and appends their lines to its text. This module also defines the trait of
+//! the sources that choose the actions.
 
 ghost use Rattle.std.specs.Prelude.{◌≡◌, [], IfOk, OnOk};
 ghost use Rattle.serf_random.specs.Draft.{AddsActions, AddsAgents};
@@ -10,8 +11,8 @@ use serf_text::MAX_SCHEDULE_BYTES;
 use serf_world::{Roster, RosterError, World};
 use std::alloc::{AllocError, Global};
 
-/// Adds an agent with the settings `config` to `roster` and its line to `text`. Adds neither if the roster refuses the
-/// agent or if the text would be too long.
+/// Adds an agent with the settings `config` to `roster`, and appends the agent's line to `text`. If the roster refuses
+/// the agent, or if the line would make the text too long, the function adds neither the agent nor its line.
 pub(crate) fn add_agent(
     alloc: Global,
     text: &mut Vec<u8>,
@@ -36,8 +37,9 @@ pub(crate) fn add_agent(
     }
 }
 
-/// Adds `action` to `actions` and its line to `text`. Returns whether more actions may follow, which is false if the
-/// text would be too long. In this case, and if no line can express the action, nothing is added.
+/// Appends `action` to `actions`, and the action's line to `text`. If the line would make the text too long, the
+/// function appends nothing and returns false, and no more actions may follow. If no line can express the action, the
+/// function appends nothing and returns true.
 pub(crate) fn add_action(
     text: &mut Vec<u8>,
     actions: &mut Vec<Action>,
@@ -59,22 +61,22 @@ pub(crate) fn add_action(
     Ok(true)
 }
 
-/// The action in which agent number `agent` does `act`.
+/// Returns the action in which agent number `agent` performs `act`.
 pub(crate) fn done_by(agent: u64, act: Act) -> Action {
     Action::Of { agent, act }
 }
 
-/// Chooses the actions of a schedule, one after another.
+/// A source that chooses the actions of a schedule, one after another.
 pub(crate) trait ActionSource {
-    /// The next action in the cluster `world`, or `None` if there are no more actions.
+    /// Returns the next action in the cluster `world`, or `None` if there are no more actions.
     fn next_action(&mut self, world: &World) -> Result<Option<Action>, AllocError>;
 
-    /// Learns for later choices that `action` was done, and that `line` is its line in the trace.
+    /// Records, for later choices, that `action` was performed and that the trace contains `line` for it.
     fn observe_turn(&mut self, action: &Action, line: &Line) -> Result<(), AllocError>;
 }
 
-/// Does the next action of `action_source` in `world`, and adds it and its line ([`add_action`]). Returns whether more
-/// may follow.
+/// Performs the next action of `action_source` in `world`, and appends the action to `actions` and its line to `text`
+/// ([`add_action`]). Returns whether more actions may follow.
 fn add_next<C: ActionSource>(
     alloc: Global,
     action_source: &mut C,
@@ -93,8 +95,9 @@ fn add_next<C: ActionSource>(
     add_action(text, actions, action)
 }
 
-/// Does the actions of `action_source` in a cluster of `agents`, and returns them. There are at most `maximum`, and
-/// fewer if the source ends or the text would be too long. Appends their lines to `text`, and reports each action to
+/// Performs the actions of `action_source` in a cluster of `agents`, and returns the actions that were added to the
+/// schedule. The function performs at most `maximum` actions, and stops earlier if the source has no more actions or if
+/// a line would make the text too long. It also appends the lines of the actions to `text`, and reports each action to
 /// `watch`.
 pub(crate) fn add_from_source<C: ActionSource, T: Watch>(
     alloc: Global,

@@ -1,4 +1,5 @@
-//! The generator chooses the actions of a cluster, one after another, and prefers edge cases of what the agents decide.
+//! The generator chooses the actions of a cluster, one after another, and prefers actions that exercise edge cases of
+//! the agents' decisions.
 
 use crate::draft::{ActionSource, done_by};
 use crate::kind::Kind;
@@ -13,16 +14,16 @@ use serf_wire::Bytes;
 use serf_world::World;
 use std::alloc::{AllocError, Global};
 
-/// What is planned to follow an action. In most cases, the agent number `to` gets the packet that the action sent.
+/// A plan for the next action. In most cases, agent number `to` receives the packet that the previous action sent.
 #[derive(Clone, Copy)]
 pub(crate) enum Next {
-    /// The agent gets the last packet.
+    /// Agent number `to` receives the packet that was sent last.
     Deliver { to: u64 },
-    /// The agent merges the last packet, as an agent that joins if `join` is true.
+    /// Agent number `to` merges the packet that was sent last. If `join` is true, this merge is part of a join.
     Merge { to: u64, join: bool },
-    /// The agent gets an older packet, and `more` others after it.
+    /// Agent number `to` receives an older packet, and `more` other packets after it.
     Again { to: u64, more: u64 },
-    /// Some agent sends its state, and the agent `to` merges it after that, as an agent that joins.
+    /// An agent sends its state, and after that, agent number `to` merges this state as part of a join.
     Join { to: u64 },
 }
 
@@ -32,7 +33,7 @@ pub(crate) struct LastQuery {
     pub(crate) agent: u64,
     pub(crate) time: u64,
     pub(crate) id: u64,
-    /// The moment after which acks and responses no longer count, in nanoseconds.
+    /// The moment, in nanoseconds, after which acks and responses are no longer accepted.
     pub(crate) deadline: u64,
 }
 
@@ -40,40 +41,45 @@ pub(crate) struct LastQuery {
 #[derive(Clone, Copy)]
 pub(crate) struct LastHanded {
     pub(crate) agent: u64,
-    /// How many queries were handed out to the agent before this one in its life.
+    /// How many queries had been handed out to the agent earlier in the same life.
     pub(crate) index: u64,
     pub(crate) time: u64,
     pub(crate) id: u32,
 }
 
-/// What a generator knows about its cluster in addition to the agents' own states, and what it has planned.
+/// A generator of actions. The generator stores its plan, and those facts about its cluster that the agents' own states
+/// don't contain.
 #[derive(Drop)]
 pub(crate) struct Generator {
     pub(crate) alloc: Global,
     pub(crate) rng: Rng,
     pub(crate) kind: Kind,
-    /// How many agents the cluster has.
+    /// How many agents are in the cluster.
     agents: u64,
-    /// How many packets were sent so far.
+    /// How many packets have been sent so far.
     sent: u64,
-    /// The present moment, in nanoseconds.
+    /// The current moment, in nanoseconds.
     pub(crate) now: u64,
     pub(crate) next: Option<Next>,
-    /// The tracks of an agent. The times in a packet or a line are at the edges of these.
+    /// The tracks of the agent for which a packet or a tail is made. The times in a new packet or tail are at the edges
+    /// of these tracks.
     pub(crate) tracks: Tracks,
-    /// The number of the first packet that not all agents got yet, counted from 0, and how many agents got it.
+    /// The number (counted from 0) of the first packet that some agents haven't received yet, and how many agents have
+    /// received it.
     passed: (u64, u64),
     pub(crate) query: LastQuery,
     pub(crate) last_handed: LastHanded,
-    /// The maximum number of queries that were handed out to one agent in a life.
+    /// The largest number of queries that were handed out to one agent in one life.
     pub(crate) handed: u64,
 }
 
-/// This is mixed into the seed, so that a generator draws other numbers than the settings do.
+/// A number that is combined with the seed, so that the generator's random numbers differ from those that determine the
+/// agents' settings.
 const SALT: u64 = 0x5eed;
 
 impl Generator {
-    /// The generator of a schedule with the options `ask`, before the first action, for a cluster of `agents` agents.
+    /// Creates a generator for a schedule that has the options `ask` and a cluster of `agents` agents. The new
+    /// generator has chosen no action yet.
     pub(crate) fn new(alloc: Global, ask: &RandomOptions, agents: u64) -> Generator {
         let query = LastQuery {
             agent: 0,
@@ -103,7 +109,7 @@ impl Generator {
         }
     }
 
-    /// The action that was planned as `next`.
+    /// Returns the action that the plan `next` describes.
     fn follow(&mut self, next: Next) -> Action {
         let packet = self.sent.saturating_sub(1);
         match next {
@@ -114,19 +120,20 @@ impl Generator {
         }
     }
 
-    /// Agent number `agent` gets packet number `packet`.
+    /// Returns the action in which agent number `agent` receives packet number `packet`.
     fn deliver(&mut self, agent: u64, packet: u64) -> Action {
         let now = self.moment();
         done_by(agent, Act::Deliver { packet, now })
     }
 
-    /// An agent sends its state. Plans that agent number `to` merges it next, as an agent that joins.
+    /// Lets an agent send its state, and plans that agent number `to` merges this state next, as part of a join.
     fn join(&mut self, to: u64) -> Action {
         self.next = Some(Next::Merge { to, join: true });
         done_by(self.agent(), Act::State)
     }
 
-    /// Agent number `to` gets an older packet. Plans that it gets `more` others after it.
+    /// Lets agent number `to` receive an older packet, and plans that the same agent receives `more` other packets
+    /// next.
     fn again(&mut self, to: u64, more: u64) -> Action {
         if more > 0 {
             self.next = Some(Next::Again {
@@ -138,7 +145,7 @@ impl Generator {
         self.deliver(to, packet)
     }
 
-    /// The action that `verb` stands for in the cluster `world`.
+    /// Returns an action of the kind that `verb` names, for the cluster `world`.
     fn act(&mut self, world: &World, verb: Verb) -> Result<Action, AllocError> {
         match verb {
             Verb::Pass => Ok(self.pass()),
@@ -156,7 +163,7 @@ impl Generator {
         }
     }
 
-    /// Injects a packet from outside the cluster, as `verb` says. An agent gets it next.
+    /// Injects a packet of the kind `verb` from outside the cluster, and plans that an agent receives this packet next.
     fn inject(&mut self, world: &World, verb: Verb) -> Result<Action, AllocError> {
         let kinds = [Verb::Event, Verb::Query, Verb::Answer, Verb::State];
         let message = match verb {
@@ -174,8 +181,9 @@ impl Generator {
         })
     }
 
-    /// Plans that an agent gets an injected packet next, or merges it if `message` is a state. The times in the packet
-    /// will be at the edges of this agent's tracks. An ack or a response goes to the agent that fired the last query.
+    /// Plans that an agent receives an injected packet next or, for a state, that an agent merges it. The times in the
+    /// packet will be at the edges of the receiving agent's tracks. The receiving agent of an ack or a response is the
+    /// agent that fired the last query.
     fn aim(&mut self, world: &World, message: Verb) {
         let to = match message {
             Verb::Answer => self.query.agent,
@@ -192,7 +200,7 @@ impl Generator {
         self.tracks = tracks_of(world, to);
     }
 
-    /// The number of an agent, and from time to time a number that no agent has.
+    /// Returns the number of a random agent or, from time to time, a number that no agent has.
     pub(crate) fn agent(&mut self) -> u64 {
         if self.rng.one_in(200) {
             return self.agents;
@@ -200,8 +208,8 @@ impl Generator {
         self.rng.below(self.agents)
     }
 
-    /// A moment, in nanoseconds. In most cases it is the present moment, which advances, or one near the last query's
-    /// deadline.
+    /// Returns a moment, in nanoseconds. In most cases, the function advances the current moment and returns it. In the
+    /// other cases, the function returns a moment near the deadline of the last query, 0, or the largest moment.
     pub(crate) fn moment(&mut self) -> u64 {
         match self.rng.below(8) {
             0 | 1 => self.rng.near(self.query.deadline),
@@ -213,17 +221,17 @@ impl Generator {
         }
     }
 
-    /// A time at an edge of the track of events.
+    /// Returns a time at an edge of the track of events.
     pub(crate) fn event_edge(&mut self) -> u64 {
         self.edge(self.tracks.events)
     }
 
-    /// A time at an edge of the track of queries.
+    /// Returns a time at an edge of the track of queries.
     pub(crate) fn query_edge(&mut self) -> u64 {
         self.edge(self.tracks.queries)
     }
 
-    /// A time at an edge of `track`, and from time to time one near the largest time.
+    /// Returns a time at an edge of `track` or, from time to time, a time near the largest possible time.
     fn edge(&mut self, track: Track) -> u64 {
         let is_great = match self.kind {
             Kind::Exhaustion => !self.rng.one_in(3),
@@ -236,9 +244,10 @@ impl Generator {
         }
     }
 
-    /// Passes the first packet that not all agents got yet to the next agent. Once all agents got it, any agent gets
-    /// one of the last packets. In schedules of the kind `gossip`, a packet is lost one time in four, and goes to the
-    /// following agent instead.
+    /// Lets the next agent receive the first packet that some agents haven't received yet. After all agents have
+    /// received a packet, and whenever no packet is left, a random agent receives one of the most recent packets
+    /// instead. In schedules of the kind `gossip`, the packet for the next agent is lost one time in four, and the
+    /// agent after it receives the packet instead.
     fn pass(&mut self) -> Action {
         let (packet, got) = self.passed;
         let got = if self.kind == Kind::Gossip && self.rng.one_in(4) {
@@ -257,7 +266,7 @@ impl Generator {
         self.deliver(got, packet)
     }
 
-    /// The number of one of the last packets, and from time to time a number that no packet has.
+    /// Returns the number of one of the most recent packets or, from time to time, a number that no packet has.
     fn recent(&mut self) -> u64 {
         if self.rng.one_in(100) {
             return self.sent;
@@ -268,7 +277,8 @@ impl Generator {
             .saturating_sub(self.rng.below(back))
     }
 
-    /// The number of one of the last packets, and from time to time that of any packet that was sent.
+    /// Returns the number of one of the most recent packets or, from time to time, the number of any packet that was
+    /// sent.
     pub(crate) fn older(&mut self) -> u64 {
         if self.rng.one_in(6) {
             return self.rng.below(self.sent);
@@ -276,14 +286,14 @@ impl Generator {
         self.recent()
     }
 
-    /// An agent gets one of the last packets.
+    /// Lets an agent receive one of the most recent packets.
     fn repeat(&mut self) -> Action {
         let agent = self.agent();
         let packet = self.recent();
         self.deliver(agent, packet)
     }
 
-    /// An agent merges one of the last packets, of whatever type.
+    /// Lets an agent merge one of the most recent packets, whatever the packet's type is.
     fn merge(&mut self) -> Action {
         let agent = self.agent();
         let packet = self.recent();
@@ -291,8 +301,8 @@ impl Generator {
         done_by(agent, Act::Merge { packet, join })
     }
 
-    /// An agent sends its state. Plans that an agent merges it next. In schedules of the kind `gossip`, a packet is
-    /// passed on instead three times in four.
+    /// Lets an agent send its state, and plans that an agent merges this state next. In schedules of the kind `gossip`,
+    /// three times in four, the generator lets an agent receive a packet instead.
     fn exchange(&mut self) -> Action {
         if self.kind == Kind::Gossip && !self.rng.one_in(4) {
             return self.pass();
@@ -306,7 +316,7 @@ impl Generator {
 }
 
 impl ActionSource for Generator {
-    /// The next action. There always is one.
+    /// Returns the next action, which a generator always has.
     fn next_action(&mut self, world: &World) -> Result<Option<Action>, AllocError> {
         self.sent = world.sent().len() as u64;
         let action = match self.next.take() {
@@ -319,7 +329,7 @@ impl ActionSource for Generator {
         Ok(Some(action))
     }
 
-    /// Remembers the query that `action` fired and the query that was handed out according to `line`, if there are any.
+    /// If `line` shows that `action` fired a query or that a query was handed out, remembers this query.
     fn observe_turn(&mut self, action: &Action, line: &Line) -> Result<(), AllocError> {
         own::record_query(self, action, line);
         if let Some(handed) = &line.handed {

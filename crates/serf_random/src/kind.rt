@@ -1,42 +1,43 @@
-//! The kinds of random schedules, and their names on a command line.
+//! The kinds of random schedules, and the names by which a command line refers to them.
 
 ghost use Rattle.std.specs.Prelude.{◌≡◌};
 ghost use Rattle.std.specs.Str.{bytes_eq};
 ghost use Rattle.serf_random.specs.Kind.{is_rounds, kind_name, kind_of};
 
-/// What a random schedule concentrates on.
+/// The kind of a random schedule, which determines what edge cases are frequent.
 #[derive(Clone, Copy, PartialEq, Eq)]
 pub enum Kind {
     /// A little of everything.
     Mixed,
-    /// Windows of 1 to 3 times, and few names.
+    /// Small windows, which span 1 to 3 times, and few names.
     Tiny,
-    /// States that are merged, also at joins. Some of them are cut off.
+    /// Merges of states, some of them at joins. Some of the states are cut off.
     Merges,
-    /// Agents that are restarted, on torn tails of snapshots.
+    /// Agents that are restarted from snapshots with torn tails.
     Restarts,
     /// Disks that fail.
     Devices,
-    /// Packets that are injected from outside the cluster, with times at the edges.
+    /// Packets that are injected from outside the cluster, with times at the edges of an agent's window.
     Injections,
     /// Queries, their acks and responses, and their deadlines.
     Queries,
-    /// Texts and packets at the limits of their sizes.
+    /// Texts and packets that are about as large as the limits allow.
     Limits,
     /// Clocks near the largest time.
     Exhaustion,
-    /// Many events of the same time.
+    /// Many events with the same time.
     PerTime,
     /// Snapshots that are compacted, on disks that may fail.
     Compactions,
-    /// Packets that travel through the cluster: most agents get each packet, some packets are lost, and states are
+    /// Packets that travel through the cluster: each packet reaches most agents, some packets are lost, and states are
     /// exchanged from time to time.
     Gossip,
-    /// Injected packets in any spelling that the grammar allows, and in some that it just doesn't allow.
+    /// Injected packets in any spelling that the grammar allows, and in some spellings that are only just invalid.
     Spellings,
-    /// Agents that keep their events, and are restarted on lines of these events, both complete and torn.
+    /// Agents that keep their events, and that are restarted from complete and from torn lines of these events.
     Kept,
-    /// Rounds of gossip: in each round, agents send what is new to them to a few random others.
+    /// Rounds of gossip: in each round, agents spread the packets that are new to them among a few other agents, chosen
+    /// at random.
     Rounds,
 }
 
@@ -48,7 +49,7 @@ fn is_name(name: &[u8], text: &[u8]) -> bool
 }
 
 impl Kind {
-    /// The kind's name on a command line.
+    /// Returns the name by which a command line refers to this kind.
     pub fn name(self) -> &'static [u8]
         ensures { result.now ≡ kind_name self }
     {
@@ -71,7 +72,7 @@ impl Kind {
         }
     }
 
-    /// The kind with the name `name`, or `None` if no kind has this name.
+    /// Returns the kind with the name `name`, or `None` if no kind has this name.
     pub fn of_name(name: &[u8]) -> Option<Kind>
         ensures { result ≡ kind_of name.now }
     {
@@ -110,7 +111,8 @@ impl Kind {
         }
     }
 
-    /// Whether schedules of this kind consist of rounds, so that they have a fanout, losses and a number of rounds.
+    /// Whether schedules of this kind consist of rounds. Only schedules of rounds have a fanout, losses and a number of
+    /// rounds.
     pub fn is_rounds(self) -> bool
         ensures { result ≡ is_rounds self }
     {

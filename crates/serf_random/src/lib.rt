@@ -1,13 +1,15 @@
-//! Makes schedules from a seed. They exercise the edge cases of what agents decide: the edges of windows, full times,
-//! deadlines, size limits, the largest times, torn tails and failing disks.
+//! Makes random schedules from seeds. These schedules exercise the edge cases of an agent's decisions: the edges of
+//! windows, times with the maximum number of events, deadlines, size limits, the largest times, torn tails and failing
+//! disks.
 //!
-//! The options ([`RandomOptions`]) and [`VERSION`] determine the bytes of a schedule.
+//! The options ([`RandomOptions`]) and the generator's version ([`VERSION`]) determine every byte of a schedule.
 //!
-//! A schedule of the kind [`Kind::Rounds`] is gossip in the field's sense: agents send what is new to them to a few
-//! others, round by round.
+//! A schedule of the kind [`Kind::Rounds`] is gossip in the usual sense of the word: round by round, each agent spreads
+//! the packets that are new to it among a few other agents.
 //!
-//! A schedule that keeps to Serf's own rules ([`common_schedule`]) is made from a random one by leaving out the actions
-//! whose turns rest on one of this project's own rules. Every turn of its run is then common.
+//! [`common_schedule`] makes a schedule that keeps to Serf's own rules. To do so, the function makes a random schedule
+//! and removes every action whose turn rests on one of this project's own rules. As a result, every turn in the run of
+//! the schedule is common.
 #![tactic(auto)]
 
 mod common;

@@ -25,8 +25,8 @@ pub struct Made {
     pub text: Vec<u8>,
 }
 
-/// The actions of a schedule with the options `ask`, in a cluster of `agents`. Appends their lines to `text`, and
-/// reports each action to `watch`.
+/// Makes the actions of a schedule from the options `ask`, for a cluster that consists of `agents`. Appends the lines
+/// of the actions to `text`, and reports each action to `watch`.
 fn add_actions<T: Watch>(
     alloc: Global,
     ask: &RandomOptions,
@@ -47,12 +47,13 @@ fn add_actions<T: Watch>(
     }
 }
 
-/// Makes a random schedule with the options `ask`, and its text.
+/// Makes a random schedule from the options `ask`, together with its text.
 ///
-/// The text begins with a comment that has the options. It reads back as exactly the settings and the actions that were
-/// made, so it is never refused. It has at most as many actions as requested, and at most 16,777,216 bytes: it ends
-/// before an action whose line would exceed this limit. A schedule of rounds also ends after its last round. Returns an
-/// `AllocError` if memory runs out. Reports each action to `watch`.
+/// The text begins with a comment that lists the options. The text parses to exactly the settings and the actions that
+/// were made, so the parser never refuses it. The schedule has at most `ask.actions` actions. Its text is at most
+/// 16,777,216 bytes long, because the schedule ends before the first action whose line would make the text longer. A
+/// schedule of rounds also ends after its last round. The function reports each action to `watch`, and returns an
+/// `AllocError` if memory runs out.
 pub fn random_schedule<T: Watch>(
     alloc: Global,
     ask: &RandomOptions,
@@ -70,7 +71,7 @@ pub fn random_schedule<T: Watch>(
     let agents = add_agents(alloc, ask, &mut text)?;
     let actions = add_actions(alloc, ask, agents.try_clone(alloc)?, &mut text, watch)?;
     let schedule = Schedule { agents, actions };
-    // For the prover: the comment is skipped when the text is read, and the rest reads back as the schedule.
+    // For the prover: the parser skips the comment, and parses the rest of the text to the schedule.
     comments_skipped();
     know_numbers(ask);
     know_read_back(&schedule);

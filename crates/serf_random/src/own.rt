@@ -1,4 +1,4 @@
-//! The actions of agents that need no injected packet.
+//! The actions that an agent can perform without an injected packet.
 
 use crate::draft::done_by;
 use crate::generator::{Generator, LastQuery, Next};
@@ -14,7 +14,7 @@ use serf_wire::Bytes;
 use serf_world::World;
 use std::alloc::AllocError;
 
-/// Draws whether a text will be about as long as its limit.
+/// Decides at random whether a text will be about as long as the limit allows.
 fn roll_long(generator: &mut Generator) -> bool {
     match generator.kind {
         Kind::Limits => !generator.rng.one_in(3),
@@ -23,7 +23,7 @@ fn roll_long(generator: &mut Generator) -> bool {
     }
 }
 
-/// Draws whether a packet will be as long as its limit, or nearly as long.
+/// Decides at random whether a packet will be exactly or nearly as long as the limit allows.
 fn roll_filled(generator: &mut Generator) -> bool {
     match generator.kind {
         Kind::Spellings => generator.rng.one_in(4),
@@ -32,7 +32,7 @@ fn roll_filled(generator: &mut Generator) -> bool {
     }
 }
 
-/// A payload, which from time to time is about as long as `limit`, in bytes.
+/// Returns a payload, which from time to time is about `limit` bytes long.
 fn payload_up_to(generator: &mut Generator, limit: u64) -> Result<Vec<u8>, AllocError> {
     if roll_long(generator) {
         long_text(generator, limit)
@@ -41,7 +41,7 @@ fn payload_up_to(generator: &mut Generator, limit: u64) -> Result<Vec<u8>, Alloc
     }
 }
 
-/// The name and the payload of an event that agent number `agent` of `world` fires.
+/// Returns a name and a payload for an event that agent number `agent` in `world` fires.
 fn event_texts(
     generator: &mut Generator,
     world: &World,
@@ -60,7 +60,7 @@ fn event_texts(
     Ok((name(generator)?, payload))
 }
 
-/// An agent fires an event.
+/// Lets an agent fire an event.
 pub(crate) fn fire(generator: &mut Generator, world: &World) -> Result<Action, AllocError> {
     let agent = generator.agent();
     let (name, payload) = event_texts(generator, world, agent)?;
@@ -72,7 +72,7 @@ pub(crate) fn fire(generator: &mut Generator, world: &World) -> Result<Action, A
     Ok(done_by(agent, act))
 }
 
-/// The parameters of a query: filters, flags and a timeout in nanoseconds, but no address and no relays.
+/// Returns the parameters of a query: filters, flags and a timeout in nanoseconds, but no address and no relays.
 fn query_params(generator: &mut Generator) -> Result<QueryParams, AllocError> {
     let timeout = generator
         .rng
@@ -89,10 +89,10 @@ fn query_params(generator: &mut Generator) -> Result<QueryParams, AllocError> {
     })
 }
 
-/// The length in bytes of a payload with which the packet of a query or a response is about as long as its limit.
+/// The length, in bytes, of a payload that makes the packet of a query or a response about as long as the limit allows.
 const LONG_PAYLOAD: u64 = 970;
 
-/// An agent fires a query.
+/// Lets an agent fire a query.
 pub(crate) fn ask(generator: &mut Generator, world: &World) -> Result<Action, AllocError> {
     let agent = generator.agent();
     let moment = generator.moment();
@@ -113,8 +113,8 @@ pub(crate) fn ask(generator: &mut Generator, world: &World) -> Result<Action, Al
     Ok(done_by(agent, Act::Query(Boxed::new(generator.alloc, query)?)))
 }
 
-/// An agent responds to a query. It is either any of the queries that were handed out to it, or the one that was handed
-/// out last, with a packet as long as its limit or nearly as long.
+/// Lets an agent respond to one of the queries that were handed out to it. From time to time, the response is instead
+/// to the query that was handed out last, and its packet is exactly or nearly as long as the limit allows.
 pub(crate) fn respond(generator: &mut Generator, world: &World) -> Result<Action, AllocError> {
     if roll_filled(generator) {
         let last = generator.last_handed;
@@ -136,7 +136,8 @@ pub(crate) fn respond(generator: &mut Generator, world: &World) -> Result<Action
     Ok(done_by(agent, act))
 }
 
-/// An agent is restarted on a tail, as after a crash. If agents keep their events, it gets older packets next.
+/// Restarts an agent whose snapshot is followed by a tail, as after a crash. In schedules of the kind `kept`, the
+/// restarted agent receives older packets next.
 pub(crate) fn restart(generator: &mut Generator, world: &World) -> Result<Action, AllocError> {
     let agent = generator.agent();
     generator.tracks = tracks_of(world, agent);
@@ -152,8 +153,8 @@ pub(crate) fn restart(generator: &mut Generator, world: &World) -> Result<Action
     Ok(done_by(agent, Act::Restart { tail }))
 }
 
-/// Lets one of the next calls of an agent's disk fail. If agents keep their events, the agent joins next, one time in
-/// three.
+/// Makes one of the next calls to an agent's disk fail. In schedules of the kind `kept`, the agent with the failing
+/// disk joins next, one time in three.
 pub(crate) fn fail(generator: &mut Generator) -> Action {
     let calls = [
         SinkCall::Append,
@@ -170,14 +171,14 @@ pub(crate) fn fail(generator: &mut Generator) -> Action {
     done_by(agent, Act::Break { call, count })
 }
 
-/// An agent closes its open queries whose deadlines are over.
+/// Lets an agent close all its open queries whose deadlines have passed.
 pub(crate) fn close(generator: &mut Generator) -> Action {
     let agent = generator.agent();
     let now = generator.moment();
     done_by(agent, Act::Close { now })
 }
 
-/// Remembers the query that `action` fired, if it fired one according to `line`, its line in the trace.
+/// If `line`, the line of `action` in the trace, shows that a query was fired, remembers this query.
 pub(crate) fn record_query(generator: &mut Generator, action: &Action, line: &Line) {
     let Answer::Queried(time) = line.answer else {
         return;

@@ -1,10 +1,11 @@
-//! Builds a packet value by value. Each value has its canonical form, or any form that MessagePack has for it.
+//! Builds a packet value by value. Each value is written in its canonical form, or in any other form that MessagePack
+//! allows for it.
 
 use crate::rng::Rng;
 use crate::value::{Field, LENGTHS, UNSUPPORTED, Value, max_of, width_of, write_canonical};
 use std::alloc::{AllocError, Global};
 
-/// Keys that no message has.
+/// Keys that don't occur in any message.
 const UNKNOWN_KEYS: [&[u8]; 7] = [
     b"Zone",
     b"Zone",
@@ -15,7 +16,7 @@ const UNKNOWN_KEYS: [&[u8]; 7] = [
     b"a key of more than thirty-one bytes",
 ];
 
-/// Numbers at the ends of the ranges that fields accept, and the next number after each range.
+/// Numbers at the upper ends of the ranges that fields accept, and the numbers just above these ranges.
 const BOUNDS: [u64; 9] = [
     0xff,
     0x100,
@@ -28,10 +29,10 @@ const BOUNDS: [u64; 9] = [
     u64::MAX,
 ];
 
-/// Nine nested arrays, which is one level more than a packet may have.
+/// Nine nested arrays, which are one level more than a packet may contain.
 const DEEP: &[u8] = b"\x91\x91\x91\x91\x91\x91\x91\x91\x90";
 
-/// Values of all kinds that have no other values in them.
+/// Sample values of all kinds, none of which contains another value.
 const LEAVES: [Value; 8] = [
     Value::Signed(-40),
     Value::Truth(true),
@@ -48,31 +49,32 @@ const LEAVES: [Value; 8] = [
 pub(crate) struct PacketBuilder {
     alloc: Global,
     rng: Rng,
-    /// Whether the form of each value is random. Otherwise it is the canonical one.
-    is_free: bool,
+    /// Whether the form of each value is random rather than canonical.
+    has_random_forms: bool,
     /// The packet's bytes so far.
     out: Vec<u8>,
-    /// How many values, or beginnings of values, come before an error. It is `None` if the packet gets no error.
+    /// How many more values, or beginnings of values, are written before an error, or `None` if the packet gets no more
+    /// errors.
     parts_before_error: Option<u64>,
     /// The length in bytes to which the finished packet is cut, or `None` if it isn't cut.
     cut_length: Option<usize>,
 }
 
 impl PacketBuilder {
-    /// The beginning of a packet in canonical forms, which is only its type byte.
+    /// Begins a packet whose values will have their canonical forms. The new packet consists only of its type byte.
     pub(crate) fn canonical(alloc: Global, type_byte: u8) -> Result<PacketBuilder, AllocError> {
         Ok(PacketBuilder {
             alloc,
             rng: Rng::new(0),
-            is_free: false,
+            has_random_forms: false,
             out: Vec::from_slice(alloc, &[type_byte])?,
             parts_before_error: None,
             cut_length: None,
         })
     }
 
-    /// The beginning of a packet in forms that `seed` determines. If `parts_before_error` is a number, there will be an
-    /// error after that many values.
+    /// Begins a packet in which `seed` determines the form of each value. If `parts_before_error` is a number, the
+    /// packet gets an error after that many values.
     pub(crate) fn free(
         alloc: Global,
         type_byte: u8,
@@ -81,14 +83,14 @@ impl PacketBuilder {
     ) -> Result<PacketBuilder, AllocError> {
         Ok(PacketBuilder {
             rng: Rng::new(seed),
-            is_free: true,
+            has_random_forms: true,
             parts_before_error,
             ..PacketBuilder::canonical(alloc, type_byte)?
         })
     }
 
-    /// The bytes of the finished packet. If its error is a cut, it is cut here. Otherwise it gets an additional byte at
-    /// the end from time to time.
+    /// Returns the bytes of the finished packet. If the packet's error is a cut, this function makes the cut. If the
+    /// packet has random forms but no cut, the function appends an additional byte to it one time in 24.
     pub(crate) fn finish(self) -> Result<Vec<u8>, AllocError> {
         let mut packet_builder = self;
         if let Some(length) = packet_builder.cut_length {
@@ -101,12 +103,12 @@ impl PacketBuilder {
         Ok(out)
     }
 
-    /// Draws true one time in `bound`. The result is always false for a canonical packet.
+    /// Returns true at random, one time in `bound`. For a canonical packet, the result is always false.
     fn one_in(&mut self, bound: u64) -> bool {
-        self.is_free && self.rng.one_in(bound)
+        self.has_random_forms && self.rng.one_in(bound)
     }
 
-    /// Appends `head` and the last bytes of `number`, as many as follow this head.
+    /// Appends `head`, followed by as many of the last bytes of `number` as `head` requires.
     fn write_wide(&mut self, head: u8, number: u64) -> Result<(), AllocError> {
         let bytes = number.to_be_bytes();
         self.out.push(head)?;
@@ -114,8 +116,8 @@ impl PacketBuilder {
             .extend_from_slice(&bytes[8usize.saturating_sub(width_of(head))..])
     }
 
-    /// Appends `value`, or its beginning, one time in two in a wide form that has room for it. Returns whether it did
-    /// so.
+    /// Chooses a wide form for `value` at random. If this form has room for the value, the function appends the value,
+    /// or its beginning, in this form one time in two. Returns whether the function appended anything.
     fn write_wide_form(&mut self, value: Value) -> Result<bool, AllocError> {
         let Some((heads, size, bits)) = value.wide_forms() else {
             return Ok(false);
@@ -131,8 +133,8 @@ impl PacketBuilder {
         Ok(true)
     }
 
-    /// Appends the error in place of the next value if it is due here, and returns whether it did so. Otherwise counts
-    /// the value.
+    /// If the packet's error is due, appends the error in place of the next value and returns true. If no error is due
+    /// yet, counts the next value and returns false.
     fn write_error_if_due(&mut self) -> Result<bool, AllocError> {
         match self.parts_before_error {
             None => Ok(false),
@@ -148,8 +150,9 @@ impl PacketBuilder {
         }
     }
 
-    /// Appends something that is an error in most places: a cut, a byte that no message has, a length with too few
-    /// bytes after it, arrays that are nested too deeply, or a value of the wrong kind or out of range.
+    /// Appends something that is an error in most places: a number that will be cut off, a byte that doesn't occur in
+    /// any message, a length with too few bytes after it, arrays that are nested too deeply, or a value that has the
+    /// wrong kind or is out of range.
     fn write_error(&mut self) -> Result<(), AllocError> {
         let value = match self.rng.below(12) {
             0 | 1 => return self.cut_off(),
@@ -173,15 +176,15 @@ impl PacketBuilder {
         write_canonical(&mut self.out, value)
     }
 
-    /// Lets the packet be cut here or up to 8 bytes later, within a number of 9 bytes that is appended.
+    /// Appends a number of 9 bytes, and plans that the finished packet is cut off somewhere within this number.
     fn cut_off(&mut self) -> Result<(), AllocError> {
         let more = self.rng.below(9) as usize;
         self.cut_length = Some(self.out.len().saturating_add(more));
         self.write_wide(0xcf, u64::MAX)
     }
 
-    /// Appends `value`, or its beginning. From time to time, appends nil in place of a value that is 0, false or empty,
-    /// or the error in place of any value.
+    /// Appends `value`, or its beginning. From time to time, appends nil in place of a value that is 0, false or empty.
+    /// If the packet's error is due, appends the error in place of the value.
     pub(crate) fn put(&mut self, value: Value) -> Result<(), AllocError> {
         if self.write_error_if_due()? {
             return Ok(());
@@ -189,13 +192,14 @@ impl PacketBuilder {
         if value.may_be_nil() && self.one_in(6) {
             return write_canonical(&mut self.out, Value::Nil);
         }
-        if self.is_free && self.write_wide_form(value)? {
+        if self.has_random_forms && self.write_wide_form(value)? {
             return Ok(());
         }
         write_canonical(&mut self.out, value)
     }
 
-    /// Appends `key` and its `value`. If the value is an array of texts, appends all of them.
+    /// Appends a field, which consists of `key` and `value`. If the value is an array of texts, appends all the texts
+    /// in it as well.
     pub(crate) fn write_field(&mut self, key: &[u8], value: Value) -> Result<(), AllocError> {
         self.put(Value::Key(key))?;
         self.put(value)?;
@@ -207,13 +211,14 @@ impl PacketBuilder {
         Ok(())
     }
 
-    /// Appends one of [`LEAVES`], a value that has no other values in it.
+    /// Appends one of the [`LEAVES`], which are values that contain no other values.
     fn write_leaf(&mut self) -> Result<(), AllocError> {
         let leaf = self.rng.pick(&LEAVES, Value::Nil);
         self.put(leaf)
     }
 
-    /// Appends a value with `levels` levels of nested arrays and maps. The nested ones are items, values or keys.
+    /// Appends a value that consists of arrays and maps nested `levels` levels deep. Each nested value is an item of an
+    /// array, or a key or a value in a map.
     fn write_nested(&mut self, levels: u64) -> Result<(), AllocError> {
         let mut leaves_to_come: u64 = 0;
         for _level in 0..levels {
@@ -239,8 +244,9 @@ impl PacketBuilder {
         Ok(())
     }
 
-    /// Appends a key that no message has, within `depth` levels, and a value. The value is either a plain one, or one
-    /// that is nested so deeply that the packet reaches the maximum number of levels, or one level more or fewer.
+    /// Appends a key that doesn't occur in any message, followed by a value. The key and the value are inside `depth`
+    /// levels of arrays and maps. The value has at most two levels, or it is nested so deeply that the packet reaches
+    /// the maximum number of levels, or one level more or fewer.
     pub(crate) fn write_unknown(&mut self, depth: u64) -> Result<(), AllocError> {
         let key = self.rng.pick(&UNKNOWN_KEYS, b"Zone");
         self.put(Value::Key(key))?;
@@ -248,12 +254,12 @@ impl PacketBuilder {
         self.write_nested(levels.saturating_sub(depth))
     }
 
-    /// The order of the `count` fields of a map, as numbers from 0 on. The number `count` stands for a key that no
-    /// message has. If the packet's forms are random, a key of this kind comes before one field in 10, one field in 24
-    /// is left out, and in one map in 16 a field appears twice.
+    /// Returns the order in which the `count` fields of a map are written. The fields are numbered from 0, and the
+    /// number `count` represents a key that doesn't occur in any message. If the packet's forms are random, one field
+    /// in 10 follows an unknown key, one field in 24 is left out, and one map in 16 contains a field twice.
     fn order(&mut self, count: u64) -> Result<Vec<u64>, AllocError> {
         let mut order = Vec::new(self.alloc);
-        let first = if self.is_free {
+        let first = if self.has_random_forms {
             self.rng.below(count)
         } else {
             0
@@ -273,7 +279,7 @@ impl PacketBuilder {
         Ok(order)
     }
 
-    /// Appends the beginning of a map with `count` fields, and returns the order of its fields
+    /// Appends the beginning of a map with `count` fields, and returns the order of these fields
     /// ([`PacketBuilder::order`]).
     pub(crate) fn write_head(&mut self, count: u64) -> Result<Vec<u64>, AllocError> {
         let order = self.order(count)?;
@@ -281,8 +287,8 @@ impl PacketBuilder {
         Ok(order)
     }
 
-    /// Appends a map with `fields`, in an order that [`PacketBuilder::order`] returns. The pairs of the map are within
-    /// `depth` levels.
+    /// Appends a map of the fields in `fields`, in an order that [`PacketBuilder::order`] chooses. The pairs of this
+    /// map are inside `depth` levels of arrays and maps.
     pub(crate) fn write_map(&mut self, fields: &[Field], depth: u64) -> Result<(), AllocError> {
         let order = self.write_head(fields.len() as u64)?;
         for number in &order {

@@ -1,5 +1,5 @@
-//! Small pools of names, payloads, tails and filters, so that values repeat, and texts with which a packet is as long
-//! as its limit.
+//! Small pools of names, payloads, tails and filters, which make values repeat. This module also makes texts with which
+//! a packet reaches its maximum length.
 
 use crate::generator::{Generator, LastHanded};
 use crate::kind::Kind;
@@ -17,33 +17,33 @@ const NAMES: [&[u8]; 5] = [b"a", b"b", b"deploy", b"", b"load"];
 /// Payloads of events, queries and responses.
 const PAYLOADS: [&[u8]; 5] = [b"", b"v1", b"v2", b"a", b"\x00\xff"];
 
-/// Lengths from which a size is refused, or from which a length has a wider form.
+/// Lengths near the size limits, and near the lengths for which MessagePack needs a wider form.
 const EDGES: [u64; 9] = [31, 255, 470, 512, 970, 1_024, 9_100, 9_216, 65_535];
 
-/// The name of a node: one letter from `a` to `f`.
+/// Returns the name of a node: one letter from `a` to `f`.
 pub(crate) fn letter(rng: &mut Rng) -> u8 {
     b'a'.saturating_add(rng.below(6) as u8)
 }
 
-/// A name for an event or a query, one of [`NAMES`].
+/// Returns one of the [`NAMES`] for an event or a query.
 pub(crate) fn name(generator: &mut Generator) -> Result<Vec<u8>, AllocError> {
     Vec::from_slice(generator.alloc, generator.rng.pick(&NAMES, b"a"))
 }
 
-/// A payload, one of [`PAYLOADS`].
+/// Returns one of the [`PAYLOADS`].
 pub(crate) fn payload(generator: &mut Generator) -> Result<Vec<u8>, AllocError> {
     Vec::from_slice(generator.alloc, generator.rng.pick(&PAYLOADS, b""))
 }
 
-/// A text of `len` bytes.
+/// Returns a text of `len` bytes.
 fn text_of(alloc: Global, len: u64) -> Result<Vec<u8>, AllocError> {
     let mut text = Vec::new(alloc);
     text.resize(len as usize, b'x')?;
     Ok(text)
 }
 
-/// A text about as long as `limit`, in bytes. One time in three, and whenever `limit` is 0, it is about as long as one
-/// of [`EDGES`].
+/// Returns a text of about `limit` bytes. One time in three, and whenever `limit` is 0, the length of the text is
+/// instead near one of the [`EDGES`].
 pub(crate) fn long_text(generator: &mut Generator, limit: u64) -> Result<Vec<u8>, AllocError> {
     let rng = &mut generator.rng;
     let edge = if limit == 0 || rng.one_in(3) {
@@ -55,10 +55,10 @@ pub(crate) fn long_text(generator: &mut Generator, limit: u64) -> Result<Vec<u8>
     text_of(generator.alloc, len)
 }
 
-/// The beginnings of a snapshot's clock lines, one for each kind.
+/// The beginnings of a snapshot's clock lines, one for each kind of clock.
 const CLOCK_LINES: [&[u8]; 3] = [b"clock: ", b"event-clock: ", b"query-clock: "];
 
-/// What may follow a snapshot's text after a crash: complete lines or torn ones.
+/// Tails that may follow a snapshot's text after a crash. Each of these tails consists of complete or torn lines.
 const TAILS: [&[u8]; 10] = [
     b"event-cl",
     b"\n",
@@ -72,8 +72,8 @@ const TAILS: [&[u8]; 10] = [
     b"clock: 4\nevent-clock: 3\nquery-clock: 2\n",
 ];
 
-/// What follows a snapshot's text after a crash: nothing, one of [`TAILS`], or a clock line near `time` that is
-/// complete or cut off.
+/// Returns a tail that may follow a snapshot's text after a crash. The tail is empty, it is one of the [`TAILS`], or it
+/// is a clock line with a time near `time`, either complete or cut off.
 pub(crate) fn tail(generator: &mut Generator, time: u64) -> Result<Vec<u8>, AllocError> {
     let rng = &mut generator.rng;
     match rng.below(6) {
@@ -90,7 +90,7 @@ pub(crate) fn tail(generator: &mut Generator, time: u64) -> Result<Vec<u8>, Allo
     }
 }
 
-/// Filters of queries. Some let nodes with certain names pass, and the others let no node pass.
+/// Filters of queries. Some of these filters let nodes with certain names pass, and the others let no node pass.
 const FILTERS: [&[u8]; 8] = [
     b"\x00\x91\xa1a",
     b"\x00\x92\xa1a\xa1b",
@@ -102,8 +102,8 @@ const FILTERS: [&[u8]; 8] = [
     b"",
 ];
 
-/// Filters of names in other forms: with a byte after them, cut off, nested too deeply, of another type, or with names
-/// that are nearly those of agents.
+/// Filters of names in other forms. Some of these filters are followed by another byte, are cut off, are nested too
+/// deeply, or have another type. Other filters contain names that differ a little from those of agents.
 const SPELLED: [&[u8]; 24] = [
     b"\x00\x91\xa1a\x00",
     b"\x00\x91\xa1b\x90",
@@ -131,8 +131,8 @@ const SPELLED: [&[u8]; 24] = [
     b"\x00\xdf\x00\x00\x00\x00",
 ];
 
-/// A filter of a query: one of [`FILTERS`], or, in schedules of the kinds `spellings` and `mixed`, one of [`SPELLED`]
-/// one time in two.
+/// Returns one of the [`FILTERS`] for a query. In schedules of the kinds `spellings` and `mixed`, the result is one of
+/// the [`SPELLED`] filters one time in two.
 fn one_filter(generator: &mut Generator) -> &'static [u8] {
     let is_spelled = match generator.kind {
         Kind::Spellings | Kind::Mixed => generator.rng.one_in(2),
@@ -145,7 +145,7 @@ fn one_filter(generator: &mut Generator) -> &'static [u8] {
     }
 }
 
-/// The filters of a query. In most cases there are none, and otherwise up to two ([`one_filter`]).
+/// Returns the filters for a query: in most cases none, and in the other cases up to two ([`one_filter`]).
 pub(crate) fn filters(generator: &mut Generator) -> Result<BytesList, AllocError> {
     let mut list = BytesList::new(generator.alloc);
     if !generator.rng.one_in(4) {
@@ -158,19 +158,19 @@ pub(crate) fn filters(generator: &mut Generator) -> Result<BytesList, AllocError
     Ok(list)
 }
 
-/// The maximum number of bytes that the name and the payload of a received event may have together.
+/// The maximum total length, in bytes, of the name and the payload of a received event.
 const MAX_EVENT: u64 = 9_216;
 
-/// The length of a packet with an empty payload, and its maximum length, both in bytes.
+/// The length of a packet with an empty payload, and the maximum length of the packet, both in bytes.
 pub(crate) type Room = (u128, u64);
 
-/// A payload that lets a packet reach its maximum length, or one byte less or more.
+/// Returns a payload that makes a packet exactly as long as its limit allows, or one byte shorter or longer.
 pub(crate) fn filling(
     generator: &mut Generator,
     (empty_length, limit): Room,
 ) -> Result<Vec<u8>, AllocError> {
     let room = u128::from(limit).saturating_sub(empty_length).min(70_000) as u64;
-    // The head of a payload of 32 bytes or more is two bytes longer than that of an empty one.
+    // The head of a payload of 32 bytes or more is two bytes longer than the head of an empty payload.
     let len = if room < 32 {
         room
     } else {
@@ -179,8 +179,8 @@ pub(crate) fn filling(
     text_of(generator.alloc, generator.rng.near(len))
 }
 
-/// A payload for an event named `name`. One time in `bound`, both texts together have the maximum length, or one byte
-/// less or more.
+/// Returns a payload for an event named `name`. One time in `bound`, the name and the payload together have the maximum
+/// length, or are one byte shorter or longer.
 pub(crate) fn payload_or_full(
     generator: &mut Generator,
     name: &[u8],
@@ -193,7 +193,8 @@ pub(crate) fn payload_or_full(
     text_of(generator.alloc, generator.rng.near(room))
 }
 
-/// The room in the packet of an event named `name` that agent `agent_number` of `world` may fire next.
+/// Returns the room for a payload in the packet of an event named `name` that agent number `agent_number` in `world`
+/// may fire next.
 pub(crate) fn event_room(world: &World, agent_number: u64, name: &[u8]) -> Room {
     let (time, limit) = match world.agent(agent_number) {
         Some(agent) => (agent.event_time(), agent.config().event_limit),
@@ -211,7 +212,8 @@ pub(crate) fn event_room(world: &World, agent_number: u64, name: &[u8]) -> Room 
     (user_event_len(&event), limit)
 }
 
-/// The room in the packet of a query with `id`, `name` and `params` that agent `agent_number` of `world` may fire next.
+/// Returns the room for a payload in the packet of a query that agent number `agent_number` in `world` may fire next,
+/// with the given ID, name and parameters.
 pub(crate) fn query_room(
     world: &World,
     agent_number: u64,
@@ -242,8 +244,8 @@ pub(crate) fn query_room(
     (query_len(&query), limit)
 }
 
-/// The room in the packet of the response to `last`, the query that was handed out last, from the agent that handed it
-/// out.
+/// Returns the room for a payload in the packet of a response to `last`, the query that was handed out last. The agent
+/// that handed out this query sends the response.
 pub(crate) fn response_room(world: &World, last: &LastHanded) -> Room {
     let Some(agent) = world.agent(last.agent) else {
         return (0, DEFAULT_RESPONSE_LIMIT);

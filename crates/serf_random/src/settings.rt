@@ -1,4 +1,4 @@
-//! The agents of a random cluster: their number, and the settings of each.
+//! Makes the agents of a random cluster: chooses how many there are, and the settings of each agent.
 
 ghost use Rattle.std.specs.Prelude.{◌≡◌, [], IfOk};
 ghost use Rattle.serf_random.specs.Draft.{AddsAgents};
@@ -13,7 +13,7 @@ use serf_wire::Bytes;
 use serf_world::Roster;
 use std::alloc::{AllocError, Global};
 
-/// The number of slots in an agent's window of events, or of queries. Each slot holds the entries of one time.
+/// Returns the number of slots in an agent's window of events or of queries. Each slot holds the entries of one time.
 fn slots(rng: &mut Rng, kind: Kind) -> u64 {
     match kind {
         Kind::Tiny => rng.below(3).saturating_add(1),
@@ -23,7 +23,7 @@ fn slots(rng: &mut Rng, kind: Kind) -> u64 {
     }
 }
 
-/// The maximum number of events, or of queries, of the same time that an agent accepts.
+/// Returns the maximum number of events (or of queries) with the same time that an agent accepts.
 fn per_time(rng: &mut Rng, kind: Kind) -> u64 {
     match kind {
         Kind::PerTime => rng.below(4).saturating_add(1),
@@ -33,7 +33,7 @@ fn per_time(rng: &mut Rng, kind: Kind) -> u64 {
     }
 }
 
-/// The maximum length in bytes of the packet of an event that an agent fires.
+/// Returns the maximum length, in bytes, of the packet for an event that an agent fires.
 fn event_limit(rng: &mut Rng, kind: Kind) -> u64 {
     match kind {
         Kind::Limits => rng.pick(&[0, 36, 37, 64, 512, 512, 1_024, 9_216, 9_216], 512),
@@ -42,7 +42,8 @@ fn event_limit(rng: &mut Rng, kind: Kind) -> u64 {
     }
 }
 
-/// The maximum number of names that count among a query's acks, and among its responses.
+/// Returns the maximum number of different nodes from which an agent accepts acks to a query. The same maximum applies
+/// to responses.
 fn responders(rng: &mut Rng, kind: Kind) -> u64 {
     match kind {
         Kind::Rounds => 1_024,
@@ -50,8 +51,9 @@ fn responders(rng: &mut Rng, kind: Kind) -> u64 {
     }
 }
 
-/// The name of agent `number`, counted from 0. It is one letter for the first 26 agents, and two letters for the
-/// others. In schedules of rounds it is `n` followed by the number.
+/// Returns the name of the agent with this `number`, counted from 0. The names of the first 26 agents consist of one
+/// letter, and all other names consist of two. In schedules of rounds, a name consists of the letter `n` and the
+/// agent's number.
 fn node_name(alloc: Global, kind: Kind, number: u64) -> Result<Vec<u8>, AllocError> {
     if kind == Kind::Rounds {
         let mut name = Vec::from_slice(alloc, b"n")?;
@@ -66,7 +68,8 @@ fn node_name(alloc: Global, kind: Kind, number: u64) -> Result<Vec<u8>, AllocErr
     Ok(name)
 }
 
-/// The settings of agent `number`, counted from 0. In schedules of rounds these are Serf's own, with smaller windows.
+/// Returns the settings of the agent with this `number`, counted from 0. In schedules of rounds, agents have Serf's own
+/// settings, but smaller windows.
 fn config(alloc: Global, rng: &mut Rng, kind: Kind, number: u64) -> Result<Config, AllocError> {
     Ok(Config {
         name: Bytes::from_vec(node_name(alloc, kind, number)?),
@@ -82,7 +85,7 @@ fn config(alloc: Global, rng: &mut Rng, kind: Kind, number: u64) -> Result<Confi
     })
 }
 
-/// The number of agents in the cluster with the options `ask`.
+/// Returns the number of agents in the cluster of a schedule with the options `ask`.
 fn agent_count(rng: &mut Rng, ask: &RandomOptions) -> u64 {
     match ask.kind {
         Kind::Rounds if ask.agents > 0 => ask.agents.min(MAX_ROUNDS_AGENTS),
@@ -92,7 +95,7 @@ fn agent_count(rng: &mut Rng, ask: &RandomOptions) -> u64 {
     }
 }
 
-/// Makes the agents of the cluster with the options `ask`, and appends their lines to `text`.
+/// Makes the agents of a schedule with the options `ask`, and appends the agents' lines to `text`.
 pub(crate) fn add_agents(
     alloc: Global,
     ask: &RandomOptions,

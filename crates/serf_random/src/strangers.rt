@@ -1,5 +1,6 @@
-//! Packets from outside the cluster, to be injected. They exercise edge cases of what an agent decides, in canonical
-//! forms or in any spelling that the grammar allows, and in some that it just doesn't allow.
+//! Makes the packets that are injected from outside the cluster. These packets exercise edge cases of an agent's
+//! decisions. Each packet is written in canonical form, in any spelling that the grammar allows, or in a spelling that
+//! is only just invalid.
 
 use crate::generator::Generator;
 use crate::kind::Kind;
@@ -11,7 +12,8 @@ use crate::verb::Verb;
 use serf_wire::Bytes;
 use std::alloc::{AllocError, Global};
 
-/// The type byte (Serf's `messageType`) of the message that `verb` names. For any other verb, it is that of an event.
+/// Returns the type byte (Serf's `messageType`) of the message that `verb` names. If `verb` names no message, returns
+/// the type byte of an event.
 fn message_type(verb: Verb) -> u8 {
     match verb {
         Verb::State => 2,
@@ -21,7 +23,7 @@ fn message_type(verb: Verb) -> u8 {
     }
 }
 
-/// The fields of an event.
+/// Returns the fields of an event.
 fn event_fields<'a>(
     time: u64,
     name: &'a [u8],
@@ -36,7 +38,7 @@ fn event_fields<'a>(
     ]
 }
 
-/// The fields of an ack or a response to the query with the time `time` and the ID `id`.
+/// Returns the fields of an ack or a response to the query that has the time `time` and the ID `id`.
 fn answer_fields<'a>(
     (time, id): (u64, u64),
     from: &'a [u8],
@@ -52,7 +54,7 @@ fn answer_fields<'a>(
     ]
 }
 
-/// `number`. One time in five, it may also be one less or more.
+/// Returns `number` or, from time to time, a number that is one less or one more.
 fn or_near(rng: &mut Rng, number: u64) -> u64 {
     if rng.one_in(5) {
         rng.near(number)
@@ -61,14 +63,15 @@ fn or_near(rng: &mut Rng, number: u64) -> u64 {
     }
 }
 
-/// The time and the ID of the query in an ack or a response: those of the last query, or near them.
+/// Returns the time and the ID of the query to which an ack or a response belongs. Both numbers are equal or close to
+/// those of the last query.
 fn answer_names(generator: &mut Generator) -> (u64, u64) {
     let last = generator.query;
     let time = or_near(&mut generator.rng, last.time);
     (time, or_near(&mut generator.rng, last.id))
 }
 
-/// Appends the field of a state's slot that has the slot's events, of which there are `count`.
+/// Appends the field that contains the events of a slot in a state. The slot has `count` events.
 fn write_events(
     generator: &mut Generator,
     packet_builder: &mut PacketBuilder,
@@ -86,7 +89,8 @@ fn write_events(
     Ok(())
 }
 
-/// A packet from outside the cluster, as `verb` says, with times at the edges of the generator's `tracks`.
+/// Returns a packet of the kind `verb` from outside the cluster. The times in this packet are at the edges of the
+/// generator's `tracks`.
 pub(crate) fn stranger(
     generator: &mut Generator,
     sent: &[Bytes],
@@ -98,7 +102,7 @@ pub(crate) fn stranger(
     }
 }
 
-/// A packet from outside the cluster in canonical forms, with the message that `verb` names.
+/// Returns a packet from outside the cluster with a message of the kind that `verb` names, written in canonical form.
 fn canonical(generator: &mut Generator, verb: Verb) -> Result<Vec<u8>, AllocError> {
     let mut packet_builder = PacketBuilder::canonical(generator.alloc, message_type(verb))?;
     match verb {
@@ -110,7 +114,7 @@ fn canonical(generator: &mut Generator, verb: Verb) -> Result<Vec<u8>, AllocErro
     packet_builder.finish()
 }
 
-/// Appends the map of an event, which from time to time has a long payload.
+/// Appends the map of an event. From time to time, the event has a long payload.
 fn write_event(
     generator: &mut Generator,
     packet_builder: &mut PacketBuilder,
@@ -126,7 +130,8 @@ fn write_event(
     packet_builder.write_map(&event_fields(time, &name, &payload, coalesce), 1)
 }
 
-/// The fields of a query with `time`, `name` and `filters`. `rng` chooses its ID, its flags and its timeout.
+/// Returns the fields of a query that has the given time, name and filters. The query's ID, flags and timeout are
+/// chosen with `rng`.
 fn query_fields<'a>(
     rng: &mut Rng,
     time: u64,
@@ -159,7 +164,7 @@ fn write_query(
     packet_builder.write_map(&fields, 1)
 }
 
-/// Appends the map of an ack or a response to the last query, or to a query with a time or an ID near it.
+/// Appends the map of an ack or a response to a query whose time and ID are equal or close to those of the last query.
 fn write_answer(
     generator: &mut Generator,
     packet_builder: &mut PacketBuilder,
@@ -171,7 +176,7 @@ fn write_answer(
     packet_builder.write_map(&answer_fields(names, &from, flags, &payload), 1)
 }
 
-/// The slots of a state, each with its time and the number of its events.
+/// Returns the slots of a state, with the time and the number of events of each slot.
 fn slots(generator: &mut Generator) -> Result<Vec<(u64, u64)>, AllocError> {
     let mut slots = Vec::new(generator.alloc);
     for _slot in 0..generator.rng.below(5) {
@@ -201,8 +206,8 @@ fn write_state(
     packet_builder.write_field(b"QueryLTime", Value::Number(query_clock))
 }
 
-/// A damaged packet: one of the last packets in `sent`, or an event from outside the cluster, that is cut off, or that
-/// has an additional byte or a changed byte.
+/// Returns a damaged packet, made from one of the last packets in `sent` or from an event from outside the cluster. The
+/// damaged packet is cut off, or it contains an additional or a changed byte.
 fn spoil(generator: &mut Generator, sent: &[Bytes]) -> Result<Vec<u8>, AllocError> {
     let number = (sent.len() as u64).saturating_sub(generator.rng.below(8));
     let mut packet = match sent.get(number as usize) {
@@ -223,8 +228,8 @@ fn spoil(generator: &mut Generator, sent: &[Bytes]) -> Result<Vec<u8>, AllocErro
     Ok(packet)
 }
 
-/// A packet from outside the cluster in any spelling, with the message that `verb` names. One time in three it has an
-/// error.
+/// Returns a packet from outside the cluster with a message of the kind that `verb` names, written in any spelling. One
+/// time in three, the packet also contains an error.
 pub(crate) fn spelled(generator: &mut Generator, verb: Verb) -> Result<Vec<u8>, AllocError> {
     let seed = generator.rng.roll();
     let parts_before_error = if generator.rng.one_in(3) {
@@ -248,8 +253,8 @@ pub(crate) fn spelled(generator: &mut Generator, verb: Verb) -> Result<Vec<u8>, 
     packet_builder.finish()
 }
 
-/// A type byte with up to three bytes after it. It is the type of one of Serf's other messages, of no message, or any
-/// byte. From time to time the packet is empty.
+/// Returns a packet that consists of a type byte and up to three bytes after it. The type byte is that of one of Serf's
+/// messages, or it belongs to no message. From time to time, the packet is empty.
 pub(crate) fn foreign(alloc: Global, rng: &mut Rng) -> Result<Vec<u8>, AllocError> {
     let kind = rng.pick(&[0, 1, 6, 7, 8, 9, 2, 3, 4, 5, 10, 127, 128, 255], 0);
     let mut packet = Vec::from_slice(alloc, &[kind])?;
@@ -262,7 +267,8 @@ pub(crate) fn foreign(alloc: Global, rng: &mut Rng) -> Result<Vec<u8>, AllocErro
     Ok(packet)
 }
 
-/// Appends the map of an event, whose texts from time to time have the maximum length together.
+/// Appends the map of an event. From time to time, the event's name and payload together have the maximum length, or
+/// nearly the maximum.
 fn spell_event(
     generator: &mut Generator,
     packet_builder: &mut PacketBuilder,
@@ -274,7 +280,7 @@ fn spell_event(
     packet_builder.write_map(&event_fields(time, &name, &payload, coalesce), 1)
 }
 
-/// Timeouts at the ends of the ranges of MessagePack's signed numbers.
+/// Timeouts, including some at the ends of the ranges of MessagePack's signed numbers.
 const TIMEOUTS: [i64; 11] = [
     0,
     1,
@@ -289,7 +295,8 @@ const TIMEOUTS: [i64; 11] = [
     i64::MAX,
 ];
 
-/// All fields of a query with `name`, `payload` and `filters`. Its numbers are at the ends of their ranges.
+/// Returns all fields of a query that has the given name, payload and filters. Many of the query's numbers are at the
+/// ends of their ranges.
 fn spelled_fields<'a>(
     generator: &mut Generator,
     name: &'a [u8],
@@ -318,7 +325,7 @@ fn spelled_fields<'a>(
     ]
 }
 
-/// Appends the map of a query, with all fields that it may have.
+/// Appends the map of a query, with all the fields that a query may have.
 fn spell_query(
     generator: &mut Generator,
     packet_builder: &mut PacketBuilder,
@@ -330,8 +337,8 @@ fn spell_query(
     packet_builder.write_map(&fields, 1)
 }
 
-/// Appends the map of an ack or a response to the last query. From time to time the query is one near the last, or
-/// none.
+/// Appends the map of an ack or a response to the last query. From time to time, the map contains a slightly different
+/// time or ID, or a time that no query has.
 fn spell_answer(
     generator: &mut Generator,
     packet_builder: &mut PacketBuilder,
@@ -346,7 +353,8 @@ fn spell_answer(
     packet_builder.write_map(&answer_fields((time, id), &from, flags, &payload), 1)
 }
 
-/// Appends a state's slot with its time and its events, in any order, and with keys that no slot has.
+/// Appends a slot of a state. The time and the events of the slot are in any order, and keys that don't belong in a
+/// slot may be among them.
 fn spell_slot(
     generator: &mut Generator,
     packet_builder: &mut PacketBuilder,
@@ -365,7 +373,7 @@ fn spell_slot(
     Ok(())
 }
 
-/// Appends the field of a state that has its slots, some of which are nil.
+/// Appends the field that contains the slots of a state. Some of these slots are nil.
 fn spell_slots(
     generator: &mut Generator,
     packet_builder: &mut PacketBuilder,
@@ -382,7 +390,7 @@ fn spell_slots(
     Ok(())
 }
 
-/// Appends the field of a state that has the status times of some nodes. A time of 0 may be written as nil.
+/// Appends the field in which a state lists the status times of some nodes. A time of 0 may be written as nil.
 fn write_statuses(rng: &mut Rng, packet_builder: &mut PacketBuilder) -> Result<(), AllocError> {
     let count = rng.below(4);
     packet_builder.write_field(b"StatusLTimes", Value::Pairs(count))?;
@@ -394,7 +402,7 @@ fn write_statuses(rng: &mut Rng, packet_builder: &mut PacketBuilder) -> Result<(
     Ok(())
 }
 
-/// Appends the field of a state that has the nodes that left.
+/// Appends the field in which a state lists the nodes that have left the cluster.
 fn write_left(rng: &mut Rng, packet_builder: &mut PacketBuilder) -> Result<(), AllocError> {
     let count = rng.below(3);
     packet_builder.write_field(b"LeftMembers", Value::Items(count))?;
@@ -405,7 +413,8 @@ fn write_left(rng: &mut Rng, packet_builder: &mut PacketBuilder) -> Result<(), A
     Ok(())
 }
 
-/// Appends the map of a state with its six fields, in any order, and with keys that no state has.
+/// Appends the map of a state. The six fields of the state are in any order, and keys that don't belong in a state may
+/// be among them.
 fn spell_state(
     generator: &mut Generator,
     packet_builder: &mut PacketBuilder,

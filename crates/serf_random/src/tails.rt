@@ -1,5 +1,5 @@
-//! What follows a snapshot's text if agents keep their events: lines as these agents write them, for packets that were
-//! sent and for other events, both complete and torn.
+//! Makes the tails that follow the snapshots of agents that keep their events. A tail contains lines like those that
+//! these agents write, for packets that were sent and for other events. The lines of a tail are complete or torn.
 
 use crate::generator::Generator;
 use crate::pools::{name, payload_or_full, tail};
@@ -15,8 +15,9 @@ use std::alloc::AllocError;
 /// The maximum number of packets that are inspected to find an event or a query.
 const LOOKS: u64 = 6;
 
-/// Lines that agents don't write, as the texts before and after a time. They have other digits or spaces, `-` for no
-/// bytes, one word more or less, numbers out of range, or no kind.
+/// Lines that agents don't write. For each line, there is a pair that consists of the text before the line's time and
+/// the text after it. These lines contain unusual digits or spaces, `-` for no bytes, a word too many or too few,
+/// numbers out of range, or no kind.
 const ODD_LINES: [(&[u8], &[u8]); 25] = [
     (b"#event 0", b" 61 7631\n"),
     (b"#event ", b" 6A 6b\n"),
@@ -45,15 +46,16 @@ const ODD_LINES: [(&[u8], &[u8]); 25] = [
     (b"#event 0 61 ", b"\n"),
 ];
 
-/// What an agent accepts: an event, with its time, name and payload, or a query, with its time and ID.
+/// An event or a query that an agent accepts: an event with its time, name and payload, or a query with its time and
+/// ID.
 #[derive(Clone, Copy)]
 enum Taken<'a> {
     Event(Time, &'a [u8], &'a [u8]),
     Query(Time, u32),
 }
 
-/// Appends to `text` what an agent that keeps its events writes when it accepts `taken`. One time in two, the clock
-/// line before it is left out.
+/// Appends to `text` the lines that an agent writes when it accepts `taken` and keeps its events. One time in two, the
+/// function leaves out the clock line.
 fn write_taken(rng: &mut Rng, text: &mut Vec<u8>, taken: &Taken) -> Result<(), AllocError> {
     let (kind, time) = match taken {
         Taken::Event(time, ..) => (ClockKind::Event, *time),
@@ -68,7 +70,8 @@ fn write_taken(rng: &mut Rng, text: &mut Vec<u8>, taken: &Taken) -> Result<(), A
     }
 }
 
-/// One of the packets in `sent`, in most cases one of the last. It is empty from time to time, and if none was sent.
+/// Returns one of the packets in `sent`, in most cases one of the most recent. From time to time, and always if `sent`
+/// contains no packets, the result is empty.
 fn packet_of<'a>(generator: &mut Generator, sent: &'a [Bytes]) -> &'a [u8] {
     match sent.get(generator.older() as usize) {
         Some(packet) => packet.as_slice(),
@@ -76,7 +79,8 @@ fn packet_of<'a>(generator: &mut Generator, sent: &'a [Bytes]) -> &'a [u8] {
     }
 }
 
-/// The event, or the query if `kind` says so, in `packet`. `None` if the packet has none.
+/// Returns the event in `packet` or, if `kind` is the kind of queries, the query in `packet`. Returns `None` if
+/// `packet` contains no message of the kind `kind`.
 fn taken_in(kind: ClockKind, packet: &[u8]) -> Option<Taken<'_>> {
     match decode(packet) {
         Ok(Message::UserEvent(event)) if kind == ClockKind::Event => {
@@ -89,8 +93,8 @@ fn taken_in(kind: ClockKind, packet: &[u8]) -> Option<Taken<'_>> {
     }
 }
 
-/// Appends to `text` the line of an event, or of a query if `kind` says so, from one of the packets in `sent`. Appends
-/// nothing if none is found.
+/// Appends to `text` the line of an event or, if `kind` is the kind of queries, the line of a query. The event or the
+/// query is taken from one of the packets in `sent`. If the function finds no event or query, it appends nothing.
 fn write_sent(
     generator: &mut Generator,
     sent: &[Bytes],
@@ -105,9 +109,12 @@ fn write_sent(
     Ok(())
 }
 
-/// Appends the line of an event near the agent's window. From time to time, the event is about as long as an event may
-/// be.
-fn write_near_event(generator: &mut Generator, text: &mut Vec<u8>) -> Result<(), AllocError> {
+/// Appends the line of an event whose time is near the agent's window. From time to time, the event is about as long as
+/// an event may be.
+fn write_event_near_window(
+    generator: &mut Generator,
+    text: &mut Vec<u8>,
+) -> Result<(), AllocError> {
     let Some(time) = Time::new(generator.event_edge()) else {
         return Ok(());
     };
@@ -117,7 +124,7 @@ fn write_near_event(generator: &mut Generator, text: &mut Vec<u8>) -> Result<(),
     write_taken(&mut generator.rng, text, &event)
 }
 
-/// Appends the line of a query near the agent's window.
+/// Appends the line of a query whose time is near the agent's window.
 fn write_near_query(generator: &mut Generator, text: &mut Vec<u8>) -> Result<(), AllocError> {
     let Some(time) = Time::new(generator.query_edge()) else {
         return Ok(());
@@ -127,7 +134,7 @@ fn write_near_query(generator: &mut Generator, text: &mut Vec<u8>) -> Result<(),
     write_taken(&mut generator.rng, text, &query)
 }
 
-/// Appends the line of a clock or a minimum near the agent's window of events, or of queries.
+/// Appends the line of a clock or a minimum, with a time near the agent's window of events or of queries.
 fn write_clock(generator: &mut Generator, text: &mut Vec<u8>) -> Result<(), AllocError> {
     let (kind, front, number): (ClockKind, &[u8], u64) = if generator.rng.one_in(3) {
         (ClockKind::Query, b"query-clock: ", generator.query_edge())
@@ -145,7 +152,7 @@ fn write_clock(generator: &mut Generator, text: &mut Vec<u8>) -> Result<(), Allo
     }
 }
 
-/// Appends one of [`ODD_LINES`], lines that agents don't write.
+/// Appends one of the [`ODD_LINES`], which are lines that agents don't write.
 fn write_odd_line(generator: &mut Generator, text: &mut Vec<u8>) -> Result<(), AllocError> {
     let (front, following) = generator.rng.pick(&ODD_LINES, (b"", b""));
     text.extend_from_slice(front)?;
@@ -153,7 +160,8 @@ fn write_odd_line(generator: &mut Generator, text: &mut Vec<u8>) -> Result<(), A
     text.extend_from_slice(following)
 }
 
-/// Appends a line for one of the packets in `sent` or for something else. A clock line may come before it.
+/// Appends a line, for example the line of an event in one of the packets in `sent`. A clock line may precede this
+/// line.
 fn write_line(
     generator: &mut Generator,
     sent: &[Bytes],
@@ -161,7 +169,7 @@ fn write_line(
 ) -> Result<(), AllocError> {
     match generator.rng.below(16) {
         0..=4 => write_sent(generator, sent, ClockKind::Event, text),
-        5..=7 => write_near_event(generator, text),
+        5..=7 => write_event_near_window(generator, text),
         8 | 9 => write_sent(generator, sent, ClockKind::Query, text),
         10 => write_near_query(generator, text),
         11 => write_odd_line(generator, text),
@@ -169,7 +177,7 @@ fn write_line(
     }
 }
 
-/// Cuts `text` off anywhere, or shortly before its end.
+/// Cuts off `text` at a random place, or shortly before its end.
 fn tear(rng: &mut Rng, text: &mut Vec<u8>) {
     let len = text.len() as u64;
     let torn_len = if rng.one_in(2) {
@@ -180,7 +188,7 @@ fn tear(rng: &mut Rng, text: &mut Vec<u8>) {
     text.truncate(torn_len as usize);
 }
 
-/// Up to three lines ([`write_line`]). One time in three, the text is torn.
+/// Returns up to three lines, which [`write_line`] writes. One time in three, the text of these lines is torn.
 fn lines(generator: &mut Generator, sent: &[Bytes]) -> Result<Vec<u8>, AllocError> {
     let mut text = Vec::new(generator.alloc);
     for _line in 0..generator.rng.below(3).saturating_add(1) {
@@ -192,8 +200,9 @@ fn lines(generator: &mut Generator, sent: &[Bytes]) -> Result<Vec<u8>, AllocErro
     Ok(text)
 }
 
-/// A tail for the agent whose tracks the generator has. It is empty, or has lines that agents write if they keep their
-/// events, for packets in `sent` and for other things. From time to time, it is a tail as in schedules of other kinds.
+/// Returns a tail for the agent whose tracks are currently stored in the generator. The tail is empty, or it contains
+/// lines like those of agents that keep their events, for example for packets in `sent`. From time to time, the tail is
+/// like those in schedules of other kinds.
 pub(crate) fn kept_tail(generator: &mut Generator, sent: &[Bytes]) -> Result<Vec<u8>, AllocError> {
     match generator.rng.below(20) {
         0..=8 => Ok(Vec::new(generator.alloc)),

@@ -1,10 +1,10 @@
-//! The tracks of an agent, for events and for queries, and times at their edges.
+//! The tracks of an agent, one for events and one for queries, and times at the edges of these tracks.
 
 use crate::rng::Rng;
 use serf_world::World;
 
-/// What determines the edges of an agent's track: its clock, the number of slots in its window, and the smallest time
-/// that it accepts.
+/// The numbers that determine the edges of an agent's track: its clock, the number of slots in its window, and the
+/// minimum time that it accepts.
 #[derive(Clone, Copy)]
 pub(crate) struct Track {
     pub(crate) clock: u64,
@@ -19,20 +19,20 @@ pub(crate) struct Tracks {
     pub(crate) queries: Track,
 }
 
-/// The track of a new agent with one slot.
+/// The track of a new agent whose window has one slot.
 const NEW_TRACK: Track = Track {
     clock: 1,
     slots: 1,
     minimum: 0,
 };
 
-/// The tracks that are used in place of those of an agent that doesn't exist.
+/// The tracks that are used for an agent that doesn't exist.
 pub(crate) const NO_TRACKS: Tracks = Tracks {
     events: NEW_TRACK,
     queries: NEW_TRACK,
 };
 
-/// The tracks of agent `agent_number` of `world`, or [`NO_TRACKS`] if there is no agent with this number.
+/// Returns the tracks of agent number `agent_number` in `world`, or [`NO_TRACKS`] if no agent has this number.
 pub(crate) fn tracks_of(world: &World, agent_number: u64) -> Tracks {
     let Some(agent) = world.agent(agent_number) else {
         return NO_TRACKS;
@@ -51,8 +51,9 @@ pub(crate) fn tracks_of(world: &World, agent_number: u64) -> Tracks {
     }
 }
 
-/// A time at an edge of `track`, or one less or more. The edges are its clock, the oldest time of its window, and its
-/// minimum. From time to time, it is a time within the window or beyond it, or one below 8.
+/// Returns a time at an edge of `track`, or a time just before or just after an edge. The edges of a track are its
+/// clock, the oldest time in its window, and its minimum. From time to time, the result is some other time within the
+/// window or beyond it, or a time below 8.
 pub(crate) fn edge_of_track(rng: &mut Rng, track: &Track) -> u64 {
     let Track {
         clock,

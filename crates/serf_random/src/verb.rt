@@ -1,4 +1,4 @@
-//! What a generator may do next, and how often it does so in each kind of schedule.
+//! The steps that a generator can choose, and how often it chooses each of them in each kind of schedule.
 
 use crate::kind::Kind;
 use crate::verb::Verb::{
@@ -7,19 +7,19 @@ use crate::verb::Verb::{
 };
 use serf_schedule::Bare;
 
-/// What a generator does next: an agent acts, or a packet from outside the cluster is injected, which an agent gets
-/// next.
+/// The next step of a generator: an agent acts, or the generator injects a packet from outside the cluster, which an
+/// agent receives next.
 #[derive(Clone, Copy)]
 pub(crate) enum Verb {
     /// An agent fires an event.
     Fire,
-    /// An agent gets the next packet that wasn't passed to it yet.
+    /// An agent receives the next packet that it hasn't received yet.
     Pass,
-    /// An agent gets one of the last packets.
+    /// An agent receives one of the most recent packets.
     Repeat,
     /// An agent sends its state, and another agent merges it.
     Exchange,
-    /// An agent merges one of the last packets, of whatever type.
+    /// An agent merges one of the most recent packets, whatever the packet's type is.
     Merge,
     /// An agent fires a query.
     FireQuery,
@@ -27,26 +27,26 @@ pub(crate) enum Verb {
     Respond,
     /// An agent is restarted.
     Restart,
-    /// A call of an agent's disk will fail.
+    /// One of the next calls to an agent's disk will fail.
     Break,
-    /// An injected event, at the edges of the agent's window.
+    /// An injected event, whose time is at an edge of the agent's window.
     Event,
-    /// An injected query, at the edges of the agent's window.
+    /// An injected query, whose time is at an edge of the agent's window.
     Query,
     /// An injected ack or response to the last query.
     Answer,
     /// An injected state, which the agent merges.
     State,
-    /// A damaged packet: one of the last packets, or an event from outside the cluster, that is cut off, or that has an
-    /// additional byte or a changed byte.
+    /// A damaged packet: one of the most recent packets, or an event from outside the cluster. The damaged packet is
+    /// cut off, or it contains an additional or a changed byte.
     Spoil,
-    /// An injected packet in any spelling.
+    /// An injected packet in any spelling, sometimes with an error.
     Spelled,
-    /// An injected packet with one of Serf's other messages, or with no message.
+    /// An injected packet that contains one of Serf's other messages, or no message at all.
     Foreign,
-    /// An agent closes its open queries whose deadlines are over.
+    /// An agent closes all its open queries whose deadlines have passed.
     Close,
-    /// An agent does what a single word of a schedule says.
+    /// An agent performs an act that has no arguments.
     Bare(Bare),
 }
 
@@ -56,8 +56,9 @@ const SAVE: Verb = Verb::Bare(Bare::Save);
 /// An agent compacts its snapshot.
 const COMPACT: Verb = Verb::Bare(Bare::Compact);
 
-/// The verbs from which a generator draws the next one in schedules of the kind `kind`. A verb that appears more often
-/// is drawn more often. A generator makes no schedules of rounds.
+/// Returns the verbs among which a generator chooses at random in schedules of the kind `kind`. The more often a verb
+/// appears in the list, the more often the generator chooses it. The list for schedules of rounds is empty, because
+/// generators don't make these schedules.
 pub(crate) fn verbs(kind: Kind) -> &'static [Verb] {
     match kind {
         Kind::Mixed => &[

@@ -1,5 +1,5 @@
-//! Rounds of gossip, as Serf's memberlist spreads broadcasts: in each round, agents send the packets that are new to
-//! them.
+//! Rounds of gossip, in which packets spread as broadcasts do in Serf's memberlist. In each round, agents pass on the
+//! packets that are new to them.
 
 use crate::draft::{ActionSource, done_by};
 use crate::random_options::{MAX_FANOUT, MAX_ROUNDS, RandomOptions};
@@ -11,13 +11,14 @@ use serf_world::World;
 use std::alloc::{AllocError, Global};
 use std::mem;
 
-/// This is mixed into the seed, so that rounds draw other numbers than the settings do.
+/// A number that is combined with the seed, so that the random numbers of the rounds differ from those that determine
+/// the agents' settings.
 const SALT: u64 = 0x60551b;
 
 /// The duration of a round, in nanoseconds (memberlist's `GossipInterval` in a local network).
 const ROUND: u64 = 200_000_000;
 
-/// The number of rounds, from the first on, in which events are fired.
+/// The number of rounds in which agents fire events, starting with the first round.
 const FIRING_ROUNDS: u64 = 3;
 
 /// The maximum number of events that are fired in each of the first [`FIRING_ROUNDS`] rounds.
@@ -26,60 +27,63 @@ const MAX_FIRED: u64 = 2;
 /// The number of rounds from one exchange of states to the next.
 const EXCHANGE_ROUNDS: u64 = 4;
 
-/// How often an agent sends a packet, for each digit of the number of agents (memberlist's `RetransmitMult`).
+/// How many times an agent sends a packet for each digit in the number of agents (memberlist's `RetransmitMult`).
 const SENDS_PER_DIGIT: u64 = 4;
 
-/// The maximum number of draws for each agent that is needed (memberlist's `kRandomNodes` has the same limit).
+/// The maximum number of random attempts for each agent that has to be found (memberlist's `kRandomNodes` has the same
+/// limit).
 const DRAWS: u64 = 3;
 
-/// A packet that an agent still sends. Packets are numbered from 0.
+/// A packet that an agent still has to send to others. Packets are numbered from 0.
 #[derive(Clone, Copy)]
 struct Rumor {
     agent: u64,
     packet: u64,
-    /// How often the agent still has to send it.
+    /// How many more times the agent has to send the packet.
     left: u64,
 }
 
-/// One planned action of a round.
+/// A planned action in a round.
 #[derive(Clone, Copy)]
 enum Step {
     /// An agent fires an event.
     Fire { agent: u64 },
-    /// An agent gets a packet.
+    /// An agent receives a packet.
     Deliver { agent: u64, packet: u64 },
     /// An agent sends its state.
     State { agent: u64 },
-    /// An agent merges one of the packets that were sent last. `back` is the packet's position from the end, and the
-    /// last packet has 1.
+    /// An agent merges one of the packets that were sent last. The field `back` is the packet's position, counted from
+    /// the end: the last packet has position 1.
     Merge { agent: u64, back: u64 },
 }
 
-/// The state of gossip by rounds: what the agents of a cluster still spread, and what is left of the present round.
+/// The state of a schedule of rounds: the packets that agents still have to send, and the remaining steps of the
+/// current round.
 #[derive(Drop)]
 pub(crate) struct Walk {
     alloc: Global,
     rng: Rng,
-    /// How many agents the cluster has.
+    /// How many agents are in the cluster.
     agents: u64,
-    /// To how many other agents an agent sends a packet in a round.
+    /// The number of other agents to which an agent sends a packet in a round.
     fanout: u64,
-    /// How many packets in a hundred are lost.
+    /// How many of every hundred packets are lost.
     loss: u64,
-    /// How often an agent sends a packet in all rounds together.
+    /// How many times an agent sends each packet, in all rounds together.
     sends: u64,
     /// The number of the last round, counted from 1.
     rounds: u64,
-    /// The number of the present round, counted from 1. It is 0 before the first round.
+    /// The number of the current round, counted from 1, or 0 before the first round.
     round: u64,
-    /// How many events were fired so far.
+    /// How many events have been fired so far.
     fired: u64,
     rumors: Vec<Rumor>,
-    /// What is left of the present round, in reverse order.
+    /// The remaining steps of the current round, in reverse order.
     steps: Vec<Step>,
 }
 
-/// How often an agent sends a packet in a cluster of `agents` agents: four times for each digit of their number.
+/// Returns how many times an agent sends each packet in a cluster of `agents` agents: four times for each digit in the
+/// number of agents.
 fn sends_of(agents: u64) -> u64 {
     let digits: u64 = match agents {
         0..=9 => 1,
@@ -91,7 +95,8 @@ fn sends_of(agents: u64) -> u64 {
     digits.saturating_mul(SENDS_PER_DIGIT)
 }
 
-/// The number of an agent other than `agent`, in a cluster of `agents` agents, which are at least two.
+/// Returns the number of a random agent other than `agent`. The number of agents in the cluster, `agents`, has to be at
+/// least two.
 fn other_than(rng: &mut Rng, agents: u64, agent: u64) -> u64 {
     let other = rng.below(agents.saturating_sub(1));
     if other >= agent {
@@ -101,8 +106,9 @@ fn other_than(rng: &mut Rng, agents: u64, agent: u64) -> u64 {
     }
 }
 
-/// The numbers of `maximum` agents other than `agent`, in a cluster of `agents` agents, which are at least two. The
-/// result has fewer numbers if too many draws repeat earlier ones.
+/// Returns the numbers of `maximum` random agents other than `agent`. The number of agents in the cluster, `agents`,
+/// has to be at least two. If too many random numbers repeat earlier ones, the result contains fewer than `maximum`
+/// numbers.
 fn others(
     alloc: Global,
     rng: &mut Rng,
@@ -124,7 +130,8 @@ fn others(
 }
 
 impl Walk {
-    /// The rounds with the options `ask`, before the first round, in a cluster of `agents` agents.
+    /// Creates the state of a schedule of rounds that has the options `ask` and a cluster of `agents` agents. The first
+    /// round has not begun yet.
     pub(crate) fn new(alloc: Global, ask: &RandomOptions, agents: u64) -> Walk {
         Walk {
             alloc,
@@ -141,7 +148,7 @@ impl Walk {
         }
     }
 
-    /// If no step is left, plans one round after another, until a round has a step or the last round is planned.
+    /// If no step is left, plans one round after another until a round contains a step or the last round is planned.
     fn plan_next(&mut self) -> Result<(), AllocError> {
         for _round in self.round..self.rounds {
             if !self.steps.is_empty() {
@@ -171,7 +178,7 @@ impl Walk {
         Ok(())
     }
 
-    /// Plans that agents fire events, from one to [`MAX_FIRED`] of them.
+    /// Plans that agents fire at least one event, and at most [`MAX_FIRED`] events.
     fn plan_events(&mut self) -> Result<(), AllocError> {
         let fired = self.rng.below(MAX_FIRED).saturating_add(1);
         for _event in 0..fired {
@@ -181,7 +188,7 @@ impl Walk {
         Ok(())
     }
 
-    /// Plans that agents send each packet that they still spread to some others.
+    /// For each packet that an agent still has to send, plans that the agent sends it to some other agents.
     fn plan_sends(&mut self) -> Result<(), AllocError> {
         let rumors = mem::replace(&mut self.rumors, Vec::new(self.alloc));
         for rumor in rumors {
@@ -194,8 +201,8 @@ impl Walk {
         Ok(())
     }
 
-    /// Plans that `rumor` is sent to some other agents. Each of them gets it unless it is lost. Returns how often it is
-    /// sent.
+    /// Plans that the packet in `rumor` is sent to some other agents. Each of these agents receives the packet unless
+    /// the packet is lost. Returns how many times the packet is sent, whether it is lost or not.
     fn plan_rumor(&mut self, rumor: Rumor) -> Result<u64, AllocError> {
         let maximum = self.fanout.min(rumor.left);
         let targets = others(self.alloc, &mut self.rng, self.agents, rumor.agent, maximum)?;
@@ -210,7 +217,7 @@ impl Walk {
         Ok(targets.len() as u64)
     }
 
-    /// Plans that two agents send their states, and that each merges the other's.
+    /// Plans that two agents send their states, and that each of the two merges the other's state.
     fn plan_exchange(&mut self) -> Result<(), AllocError> {
         let one = self.rng.below(self.agents);
         let other = other_than(&mut self.rng, self.agents, one);
@@ -228,7 +235,7 @@ impl Walk {
         ])
     }
 
-    /// The action of `step` in the cluster `world`.
+    /// Returns the action that carries out `step` in the cluster `world`.
     fn action_of(&mut self, world: &World, step: Step) -> Result<Action, AllocError> {
         Ok(match step {
             Step::Fire { agent } => done_by(agent, self.fire()?),
@@ -245,7 +252,8 @@ impl Walk {
         })
     }
 
-    /// Lets an agent fire the next event. Its payload is its number, counted from 1, so no two events are the same.
+    /// Returns the act of firing the next event. The payload of an event is the event's number, counted from 1, so no
+    /// two events are the same.
     fn fire(&mut self) -> Result<Act, AllocError> {
         self.fired = self.fired.saturating_add(1);
         let mut payload = Vec::new(self.alloc);
@@ -259,7 +267,7 @@ impl Walk {
 }
 
 impl ActionSource for Walk {
-    /// The next action, or `None` after the last round.
+    /// Returns the next action, or `None` after the last round.
     fn next_action(&mut self, world: &World) -> Result<Option<Action>, AllocError> {
         self.plan_next()?;
         match self.steps.pop() {
@@ -268,8 +276,8 @@ impl ActionSource for Walk {
         }
     }
 
-    /// If an agent fired an event or got it for the first time according to `line`, the agent sends it from the next
-    /// round on.
+    /// If `line` shows that an agent fired an event or received one for the first time, the agent will send this event
+    /// to others from the next round on.
     fn observe_turn(&mut self, action: &Action, line: &Line) -> Result<(), AllocError> {
         let Action::Of { agent, .. } = action else {
             return Ok(());

@@ -30,8 +30,8 @@ whole options runs run bytes text h =
 
 pub bad-output : (bytes : List ℕ) (lines more : List (List ℕ)) (line : List ℕ) (number : ℕ) (cause : Cause) → lines_of bytes ≡ lines ++ line ∷ more → number ≡ length lines + 1 → is_refused_by lines line cause
     → output_of bytes ≡ Err (record { line = number; cause = cause })
-bad-output bytes lines more line number cause cut counted why =
-    ap (λ l. text_of (schedule_in l)) cut ∙ ap text_of (why more)
+bad-output bytes lines more line number cause splits counted why =
+    ap (λ l. text_of (schedule_in l)) splits ∙ ap text_of (why more)
     ∙ ap (λ n. let bad : BadLine = record { line = n; cause = cause } in let err : Result (List ℕ) BadLine = Err bad in err) (sym counted)
 
 pub halted : {A T : Type 0} (streams : A → Type 0) (error : StreamError Cause) (bytes : List ℕ) (first now : Option (List ℕ)) → StopsAt {J = Run T} (HasStreamed streams Traces) is_refused_by error (lines_of bytes) first now → IsHalted error bytes first now
@@ -40,7 +40,7 @@ halted streams error bytes first now s =
     record {
       lines = s.lines;
       left = s.left;
-      cut = s.cut;
+      splits = s.splits;
       schedule = h.said;
       reads = h.reads;
       text = s.text;
@@ -55,7 +55,7 @@ halted-at streams told error bytes first now s =
     record {
       lines = s.lines;
       left = s.left;
-      cut = s.cut;
+      splits = s.splits;
       schedule = h.said;
       reads = h.reads;
       cause = s.cause;

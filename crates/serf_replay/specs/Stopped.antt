@@ -18,7 +18,7 @@ IsHalted error bytes first now = Halts (λ said text. text ≡ run_text said) er
 pub record IsHaltedAt (error : StreamError Cause) (bytes : List ℕ) : Type 0 where
   pub lines : List (List ℕ)
   pub left : List (List ℕ)
-  pub cut : lines_of bytes ≡ lines ++ left
+  pub splits : lines_of bytes ≡ lines ++ left
   pub schedule : Parsed
   pub reads : schedule_in lines ≡ Ok schedule
   pub cause : IsCauseBy is_refused_by error lines left

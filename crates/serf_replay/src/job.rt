@@ -1,4 +1,4 @@
-//! Replays a whole schedule: reads it to its end, runs it, and then writes the trace of its cluster.
+//! Replays a whole schedule: reads the schedule to the end, runs it, and then writes the trace of the cluster.
 
 ghost use Rattle.std.specs.Prelude.{◌≡◌, ◌<◌, ◌≤◌, ◌+◌, List, ℕ, length, OnOk, IfOk, IfErr, IfSome, IsErrOf, Ok, Err};
 ghost use Rattle.std.specs.Io.KnownBytes.{Appends, Consumes};
@@ -13,8 +13,8 @@ use serf_text::{Cause, StreamLineError, read_input, report_text, write_output};
 use std::alloc::Global;
 use std::io::{Read, Write};
 
-/// Returns the text of the trace of the schedule `input`. Its lines are read and done one by one, and `watch` is called
-/// after each action.
+/// Returns the trace of the schedule `input` as a text. The function reads and runs the lines of the schedule one by
+/// one, and calls `watch` after each action.
 fn output_text<T: Watch>(
     alloc: Global,
     input: &[u8],
@@ -23,7 +23,7 @@ fn output_text<T: Watch>(
     ensures text { GivesText result (output_of input.now) }
     ensures run { IfOk result (λ text. TracesRun input.now text.items) }
 {
-    // For the prover: the text that is written for a schedule is the trace of a run that keeps all promises.
+    // The prover needs the law that the text written for a schedule is the trace of a run that keeps all promises.
     traced_schedules();
     let all = count_watched(input, watch);
     let reporter = TraceText;
@@ -42,19 +42,20 @@ fn output_text<T: Watch>(
     }
 }
 
-/// Reads a schedule to its end, and writes the trace of its cluster.
+/// Reads a schedule to the end, and writes the trace of the cluster.
 ///
-/// At most 16,777,217 bytes are read, and nothing is written before the whole schedule is read, parsed and run. If the
-/// result is `Ok`, exactly the text of the trace was written, and the run that it shows keeps all promises
-/// ([`serf_model::run_promises`]). `watch` is called after each action of the run ([`crate::Unwatched`] is a watch that
-/// does nothing).
+/// The function reads at most 16,777,217 bytes, and writes nothing until the whole schedule has been read, parsed and
+/// run. If the result is `Ok`, the function has written exactly the text of the trace, and the run that the trace shows
+/// keeps all promises ([`serf_model::run_promises`]). The function calls `watch` after each action of the run
+/// ([`crate::Unwatched`] is a watch that does nothing).
 pub fn replay<R: Read, W: Write, T: Watch>(
     alloc: Global,
     reader: &mut R,
     writer: &mut W,
     watch: &mut T,
 ) -> Result<(), ReplayError>
-    // Exactly the text of the input's trace was written. It is the trace of a run that keeps all promises.
+    // On success, the function has written exactly the trace of the input, which is the trace of a run that keeps all
+    // promises.
     ensures done { OnOk result (IfSome (R.remaining reader.old) (λ input. (text : List ℕ)
         × (output_of input ≡ Ok text) × (length input ≤ longest_schedule)
         × TracesRun input text × Appends (W.contents writer.old) (W.contents writer.new) text)) }
@@ -63,14 +64,14 @@ pub fn replay<R: Read, W: Write, T: Watch>(
     ensures bad_line { (line : ℕ) (cause : Cause) → IsErrOf result (ReplayError.BadLine line cause)
         → IfSome (R.remaining reader.old) (λ input. (length input ≤ longest_schedule)
         × (output_of input ≡ Err (record { line = line; cause = cause }))) }
-    // After a failed write, a prefix of this text was written. After any other error, nothing was written.
+    // If writing the trace failed, only a prefix of the trace was written. After any other error, nothing was written.
     ensures front { IsErrOf result ReplayError.WriteError
         → IfSome (R.remaining reader.old) (λ input. (text : List ℕ) × (output_of input ≡ Ok text)
         × (length input ≤ longest_schedule) × TracesRun input text
         × AppendsFront (W.contents writer.old) (W.contents writer.new) text) }
     ensures nothing { IfErr result (λ error. (error ≡ ReplayError.WriteError → ⊥)
         → writer.new ≡ writer.old) }
-    // At most one byte more than the maximum length is read.
+    // The function reads at most one byte more than the maximum length of a schedule.
     ensures bounded { (bytes : List ℕ)
         × Consumes (R.remaining reader.old) (R.remaining reader.new) bytes
         × (length bytes ≤ longest_schedule + 1) }

@@ -1,12 +1,12 @@
-//! The key by which a summary counts an event: its time, name and payload.
+//! The key by which a summary counts an event. The key consists of the event's time, name and payload.
 
 ghost use Rattle.std.specs.Prelude.{◌≡◌, IfOk};
 
 use serf_model::EventLine;
 use std::alloc::{AllocError, Global};
 
-/// The key of an event: its Lamport time, its name and its payload. Two events are the same event if all three are
-/// equal.
+/// The key of an event: its Lamport time, its name and its payload. Two events are the same event if their times, their
+/// names and their payloads are equal.
 #[derive(Drop, PartialEq, Eq, Hash)]
 pub struct EventKey {
     pub time: u64,

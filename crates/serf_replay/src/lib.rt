@@ -1,9 +1,10 @@
-//! Runs schedules over any reader and writer. A run reads a schedule and writes the trace of its cluster, either at the
-//! end or line by line. A summary describes a run in a few lines: how often each answer occurred, how many events each
-//! agent was handed, and at which action the last agent was handed each event.
+//! Runs schedules from any reader, and writes the results to any writer. A run reads a schedule and writes the trace of
+//! the schedule's cluster, either after the whole schedule or line by line. A summary describes a run in a few lines:
+//! how often each answer occurred, how many events were handed to each agent, and at which action each event was handed
+//! to the last agent.
 //!
-//! [`serf_schedule`] and [`serf_text`] define what a run reads and writes. The parts that callers need are exported
-//! here too.
+//! [`serf_schedule`] and [`serf_text`] define what a run reads and writes. This crate also exports the parts of these
+//! two crates that callers need.
 #![tactic(auto)]
 
 mod job;
@@ -27,7 +28,7 @@ pub use serf_schedule::{
 pub use serf_text::{
     Cause, DecodeTextError, InputError, LineError, MAX_SCHEDULE_BYTES, WireWords, WriteError,
     bytes_at, choice, choice_at, clocks_text, decode_text, flag, hex_bytes, is_word, number,
-    number_at, number_from_to, read_input, split_once, take_words, word_at, write_hex,
+    number_at, number_from_to, read_input, split_once, split_words_into, word_at, write_hex,
     write_members, write_message, write_number, write_number_line, write_output, write_signed,
     write_slot, write_with_hex, write_with_number,
 };

@@ -1,10 +1,10 @@
-//! Counts the actions of a schedule, for a watch that shows the progress of its run.
+//! Counts the actions in a schedule, so that a watch can show the progress of the run.
 
 use serf_schedule::Watch;
 use serf_text::{is_word, split_once};
 
-/// Whether `line`, a line of a schedule, has an action: it has words, isn't a comment (`#`), and doesn't begin with
-/// `agent`.
+/// Returns whether `line`, a line of a schedule, contains an action. A line contains an action if it contains a word,
+/// isn't a comment (`#`), and doesn't begin with the word `agent`.
 fn has_action(line: &[u8]) -> bool {
     if line.starts_with(b"#") {
         return false;
@@ -15,7 +15,7 @@ fn has_action(line: &[u8]) -> bool {
     }
 }
 
-/// Returns how many lines of the schedule `text` have an action. The number stops at 2^64 - 1.
+/// Returns the number of lines in the schedule `text` that contain an action. The number is capped at 2^64 - 1.
 fn count_actions(text: &[u8]) -> u64 {
     let mut count: u64 = 0;
     let mut rest = text;
@@ -31,7 +31,8 @@ fn count_actions(text: &[u8]) -> u64 {
     }
 }
 
-/// Returns how many actions the schedule `text` has. If `watch` isn't watching, it returns 0 without counting.
+/// Returns the number of actions in the schedule `text`. If `watch` isn't watching, the function returns 0 without
+/// counting.
 pub(crate) fn count_watched<T: Watch>(text: &[u8], watch: &T) -> u64 {
     if watch.is_watching() {
         count_actions(text)

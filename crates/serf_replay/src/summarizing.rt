@@ -1,4 +1,4 @@
-//! Summarizes the run of a schedule, which was parsed before or is read line by line.
+//! Summarizes the run of a schedule that either has already been parsed or is read line by line.
 
 ghost use Rattle.std.specs.Prelude.{◌≡◌, IfErr, IfOk, List, length, map, ℕ};
 ghost use Rattle.std.specs.Io.KnownBytes.{Consumes, IsAtEnd};
@@ -14,16 +14,16 @@ use std::alloc::{AllocError, Global};
 use std::io::{self, Read};
 use std::mem;
 
-/// Runs `schedule` and returns the summary of the run. The actions are done one after another, and each line of the
-/// trace is dropped after it is counted. `watch` is called after each action.
+/// Runs `schedule` and returns the summary of the run. The function runs the actions one after another, counts each
+/// line of the trace, and then drops the line. The function calls `watch` after each action.
 ///
-/// Returns `AllocError` only if there is no memory for the cluster or the summary.
+/// Returns `AllocError` only if there isn't enough memory for the cluster or the summary.
 pub fn summarize<T: Watch>(
     alloc: Global,
     schedule: Schedule,
     watch: &mut T,
 ) -> Result<Summary, AllocError>
-    // The summary has exactly what the lines of the schedule's run show.
+    // The summary contains exactly the counts of the lines in the schedule's trace.
     ensures run { IfOk result (λ summary. IsSummary summary
         (map (λ t. t.line) (run_of schedule.agents schedule.actions.items).turns)) }
     ensures size { IfOk result (λ summary. summary.size ≡ length schedule.agents) }
@@ -42,21 +42,23 @@ pub fn summarize<T: Watch>(
     Ok(reporter)
 }
 
-/// Runs a schedule that is read line by line, and returns the summary of the run. Each line is run, its trace is
-/// counted, and then the line is dropped.
+/// Runs a schedule that is read line by line, and returns the summary of the run. The function runs each line, counts
+/// the trace of the line, and then drops the line.
 ///
-/// A schedule may have any length, and a line may have up to 16,777,216 bytes. Only the cluster, with all packets that
-/// were sent, the summary, and the line that is being read are in memory. If a line is refused, it is the first line
-/// that [`crate::replay`] refuses, and the cause is the same. In that case, there is no summary of the lines before it.
+/// A schedule may have any length, and a line may have up to 16,777,216 bytes. In memory, the function keeps only the
+/// current line, the summary, and the cluster with all packets that were sent. If the function refuses a line, this
+/// line is the first one that [`crate::replay`] refuses, and the cause is the same. If a line is refused, the function
+/// returns no summary of the earlier lines.
 pub fn summarize_lines<R: Read>(
     alloc: Global,
     reader: &mut R,
 ) -> Result<Summary, StreamError<Cause>>
-    // The whole input is a schedule, and the summary has exactly what the lines of its run show.
+    // On success, the whole input is a schedule, and the summary contains exactly the counts of the lines in the
+    // schedule's trace.
     ensures done { IfOk result (λ summary. (bytes : List ℕ)
         × Consumes (R.remaining reader.old) (R.remaining reader.new) bytes
         × IsAtEnd (R.remaining reader.new) × IsSummaryOf bytes summary) }
-    // Some of the lines that were read were done.
+    // After an error, the function has run some of the lines that it read.
     ensures stopped { IfErr result (λ error. (bytes : List ℕ)
         × Consumes (R.remaining reader.old) (R.remaining reader.new) bytes
         × IsHaltedAt error bytes) }

@@ -1,5 +1,5 @@
-//! The summary of a run. In clauses, `records` are the lines of a trace (`Shown`, or `Event` for the lines of events),
-//! each with the number of its action.
+//! Contains the summary of a run. In clauses, `records` is a list of trace lines (`Shown`, or `Event` for the lines of
+//! events), each with the number of its action.
 
 ghost use Rattle.std.specs.Prelude.{◌≡◌, ◌+◌, ◌++◌, ◌∷◌, [], ℕ, List, OnOk};
 ghost use Rattle.serf_model.specs.declared.line.EventLine.{EventLine as Event};
@@ -14,25 +14,26 @@ use serf_model::{EventLine, Line};
 use serf_schedule::answer_words;
 use std::alloc::{AllocError, Global};
 
-/// The counts of a run. Whatever didn't occur is in none of the tables.
+/// The counts of a run. The tables contain no entry for anything that didn't occur.
 #[derive(Drop)]
 pub struct Summary {
-    /// How many agents the cluster has.
+    /// The number of agents in the cluster.
     pub size: u64,
-    /// How many actions were done.
+    /// The number of actions that were run.
     pub actions: u64,
-    /// How often each answer occurred, and at which action it last occurred. The key is the answer in the words of the
-    /// trace, without numbers.
+    /// How often each answer occurred, and the number of the action at which the answer last occurred. The key is the
+    /// answer in the words of the trace, but without numbers.
     pub answers: IndexMap<&'static [u8], Frequency>,
-    /// How many events each agent was handed, and at which action this last happened. The key is the number of the
-    /// agent, counted from 0.
+    /// How many events were handed to each agent, and the number of the action at which an event was last handed to the
+    /// agent. The key is the agent's number, counted from 0.
     pub agents: IndexMap<u64, Frequency>,
-    /// How often each event was handed out, and at which action it was handed to the last agent.
+    /// How often each event was handed out, and the number of the action at which the event was handed to the last
+    /// agent.
     pub events: IndexMap<EventKey, Frequency>,
 }
 
-/// Counts `event`, which was handed out at action number `action`, in two tables: in `agents` for its agent, and in
-/// `events`.
+/// Counts `event`, which was handed out at action number `action`, in two tables: in `agents` under the event's agent,
+/// and in `events` under the event itself.
 fn record_event(
     alloc: Global,
     agents: &mut IndexMap<u64, Frequency>,
@@ -48,8 +49,8 @@ fn record_event(
     count_one(events, key, action)
 }
 
-/// Counts the events of `lines` in the tables `agents` and `events`. These are all events that were handed out at
-/// action number `action`.
+/// Counts the events in `lines` in the tables `agents` and `events`. The list `lines` contains all events that were
+/// handed out at action number `action`.
 fn record_events(
     alloc: Global,
     agents: &mut IndexMap<u64, Frequency>,
@@ -92,7 +93,8 @@ impl Summary {
         }
     }
 
-    /// Counts what `line`, the result of the next action, shows. After an `AllocError`, a part of it may be counted.
+    /// Counts the answer and the events in `line`, the result of the next action. If memory runs out (`AllocError`),
+    /// only a part of the answer and the events may have been counted.
     pub(crate) fn add(&mut self, alloc: Global, line: &Line) -> Result<(), AllocError>
         ensures { (lines : List Shown) → IsSummary self.old lines
             → OnOk result (IsSummary self.new (lines ++ line.now ∷ [])) }

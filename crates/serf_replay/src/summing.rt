@@ -5,7 +5,7 @@ use serf_model::{Action, Line};
 use serf_world::{Turns, World};
 use std::alloc::{AllocError, Global};
 
-/// Counts the line of each turn, and writes no text about it. [`Turns::begin`] and [`Turns::inspect`] do nothing.
+/// Counts the line of each turn, and writes no text about the turn. [`Turns::begin`] and [`Turns::inspect`] do nothing.
 impl Turns for Summary {
     ghost use Rattle.serf_replay.specs.Summing.{sums_up};
 
@@ -13,7 +13,8 @@ impl Turns for Summary {
 
     type Seen = ();
 
-    // The summary has what the lines of the turns show. It has no options, and records nothing before an action.
+    // The summary contains the counts of the lines of all turns. A summary has no options, and records nothing before
+    // an action.
     ghost told = { λ options s configs actions text. sums_up s configs actions text };
 
     ghost saw = { λ options s seen configs actions action text. sums_up s configs actions text };

@@ -9,7 +9,7 @@ use indexmap::IndexMap;
 use std::alloc::AllocError;
 use std::hash::Hash;
 
-/// How often something occurred (`times`, which stops at 2^64 - 1), and the number of the action at which it last
+/// How often something occurred (`times`, which is capped at 2^64 - 1), and the number of the action at which it last
 /// occurred (`last`).
 #[derive(Clone, Copy, PartialEq, Eq)]
 pub struct Frequency {
@@ -17,8 +17,8 @@ pub struct Frequency {
     pub last: u64,
 }
 
-/// Returns the count after something occurred at action number `action`. `found` is the count before this action, or
-/// `None` if it had never occurred.
+/// Returns the frequency of something that has just occurred at action number `action`. `found` is the frequency before
+/// this action, or `None` if there was no earlier occurrence.
 fn once_more(found: Option<&Frequency>, action: u64) -> Frequency
     ensures { result ≡ again action (option_copied found.entry) }
 {
@@ -34,7 +34,8 @@ fn once_more(found: Option<&Frequency>, action: u64) -> Frequency
     }
 }
 
-/// Counts in the table `found` that `key` occurred at action number `action`. A new key is appended to the others.
+/// Counts an occurrence of `key` at action number `action` in the table `found`. A new key is appended after the other
+/// keys.
 pub(crate) fn count_one<K: Eq + Hash + Drop>(
     found: &mut IndexMap<K, Frequency>,
     key: K,

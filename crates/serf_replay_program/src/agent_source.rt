@@ -1,4 +1,4 @@
-//! A schedule that is read line by line, with the agents at its beginning.
+//! Reads a schedule line by line, and remembers the agents that are listed at its beginning.
 
 use crate::command_error::CommandError;
 use crate::io::Source;
@@ -8,22 +8,22 @@ use serf_text::LineError;
 use std::alloc::Global;
 use std::io::{self, Read};
 
-/// A source of a schedule that remembers the schedule's agents while it is read. Their lines are before the first
-/// action, so it reads no line after that one.
+/// A source from which a schedule is read, and which remembers the schedule's agents during the reading. All lines of
+/// agents precede the first action, so the source parses no line after the first action.
 #[derive(Drop)]
 pub(crate) struct AgentSource<'a> {
     alloc: Global,
     source: Source<'a>,
-    /// The agents, and the first action after it was read.
+    /// The agents that have been parsed so far and, as soon as it has been parsed, the first action.
     schedule: Schedule,
-    /// What was read of the current line.
+    /// The bytes of the current line that have been read so far.
     line: Vec<u8>,
-    /// Why no line is read any more, although there may be further agents.
+    /// The error in a line, if there was one: after it, no more lines are parsed, although more agents may follow.
     error: Option<LineError>,
 }
 
 impl<'a> AgentSource<'a> {
-    /// A source that reads from `source`, which nobody has read from.
+    /// Creates a source that reads from `source`, from which nothing may have been read before.
     pub(crate) fn of<'b>(
         alloc: Global,
         source: Source<'a>,
@@ -38,19 +38,19 @@ impl<'a> AgentSource<'a> {
         })
     }
 
-    /// Whether the next line may have an agent.
+    /// Returns whether the next line may still be the line of an agent.
     fn is_reading(&self) -> bool {
         self.error.is_none() && self.schedule.actions.is_empty()
     }
 
-    /// Reads the current line, which has ended.
+    /// Parses the current line, which has to be complete.
     fn end_line(&mut self) -> Result<(), LineError> {
         read_schedule_line(self.alloc, &mut self.schedule, &self.line)?;
         self.line.clear();
         Ok(())
     }
 
-    /// Reads `byte`, the next byte of the schedule.
+    /// Accepts `byte`, the next byte of the schedule.
     fn read_byte(&mut self, byte: u8) -> Result<(), LineError> {
         if byte == b'\n' {
             return self.end_line();
@@ -61,10 +61,10 @@ impl<'a> AgentSource<'a> {
         }
     }
 
-    /// The agents of the schedule, after all of it was read and run.
+    /// Returns the agents in the schedule. The whole schedule has to have been read and run before.
     pub(crate) fn agents<'b>(&mut self) -> Result<&[Config], CommandError<'b>> {
         if self.is_reading() {
-            // The last line has no newline.
+            // A last line without a newline hasn't been parsed yet.
             self.error = self.end_line().err();
         }
         match self.error {

@@ -1,4 +1,4 @@
-//! How a command ends: its status, and the line on standard error if it ends with an error.
+//! Defines how a command ends: its exit status and, if it ends with an error, the line on standard error.
 
 use crate::io::{Io, name_of};
 use serf_conform::ConformError;
@@ -9,10 +9,10 @@ use serf_write::WordError as BadWord;
 use std::alloc::AllocError;
 use std::io;
 
-/// The exit status of the program. The values are 0 to 3, in this order.
+/// The exit status of the program. The variants have the values 0 to 3, in the order in which they are listed.
 #[derive(Clone, Copy, PartialEq, Eq, PartialOrd, Ord)]
 pub(crate) enum Status {
-    /// The command is done, or help was requested.
+    /// The command was carried out, or help was requested.
     Done,
     /// The input was refused, a promise is broken, or an agent disagrees.
     Refused,
@@ -23,7 +23,8 @@ pub(crate) enum Status {
 }
 
 impl Status {
-    /// The status of a command that read its input: `Refused` if it refused a part of it, and otherwise `Done`.
+    /// Returns the status of a command that read its input: `Refused` if it refused a part of the input, and otherwise
+    /// `Done`.
     pub(crate) fn refused_if(is_refused: bool) -> Status {
         if is_refused {
             Status::Refused
@@ -33,49 +34,53 @@ impl Status {
     }
 }
 
-/// Why a command failed. Its input is the file that its argument `FILE` names, or standard input.
+/// The reason why a command failed. The input of a command is the file that its argument `FILE` names, or standard
+/// input.
 #[derive(Clone, Copy)]
 pub(crate) enum CommandError<'a> {
     NoMemory,
-    /// The file with this name could not be read. If no name is given, it is the input.
+    /// The file with the given name could not be read or, if no name is given, the command's input could not be read.
     ReadError(Option<&'a str>),
     /// The input is too long.
     TooLong,
-    /// Standard output, or a file, could not be written.
+    /// The command could not write to standard output or to a file.
     WriteError,
-    /// A line of a schedule is bad. The values are its number, counted from 1, and what is wrong with it.
+    /// A line of a schedule is bad. The values are the number of the bad line, counted from 1, and the cause.
     BadLine(u64, Cause),
-    /// A line of a stream is bad. The values are its number, counted from 1, and a word for what is wrong with it.
+    /// A line of a stream is bad. The values are the number of the bad line, counted from 1, and a word for the cause.
     BadStreamLine(u64, &'static str),
-    /// A word of a written schedule is none of the expected ones. The values are the number of its line, counted from
-    /// 1, and the word.
+    /// A line of a written schedule contains a word at a place where it isn't allowed. The values are the number of the
+    /// line, counted from 1, and the bad word.
     BadWord(u64, BadWord),
     /// A line of a log has too many bytes. The values are the log's name, which is `None` if there is only one log, and
     /// the number of the line, counted from 1.
     LongLogLine(Option<&'a str>, u64),
-    /// A file is refused. The values are its name, what is wrong with it, and the status.
+    /// A file is refused. The values are the name of the file, the reason, and the exit status.
     File(&'a str, &'static str, Status),
-    /// The command line is refused. These texts, one after another, are the reason.
+    /// The command line is refused. The reason consists of the five texts, joined together.
     CommandLine(&'a str, &'a str, &'a str, &'a str, &'a str),
-    /// A word names no agent of the schedule. The values are the word and the number of agents.
+    /// A number on the command line isn't the number of any agent in the schedule. The values are the word with this
+    /// number, and how many agents the schedule has.
     NoAgent(&'a str, u64),
-    /// A schedule could not be compared to its end. The values are `seed` or `agent`, its number, and the reason.
+    /// The comparison on a schedule failed before the end of the schedule. The values are the word `seed` or `agent`,
+    /// the number of this seed or agent, and the reason.
     NotHeld(&'static str, u64, ConformError),
     /// The calls at which an agent fails could not be shortened.
     NotShrunk(ConformError),
-    /// Everything was reported already, and this is the status.
+    /// The command has already reported everything, and ends with the given status.
     Reported(Status),
 }
 
 /// The result of a command.
 pub(crate) type CommandResult<'a> = Result<Status, CommandError<'a>>;
 
-/// The error of a command line that is refused for the reason `why`.
+/// Returns the error for a command line that is refused for the reason `why`.
 pub(crate) fn command_line<'a>(why: &'a str) -> CommandError<'a> {
     CommandError::CommandLine(why, "", "", "", "")
 }
 
-/// The error of a command that read a stream. `word` says what is wrong with a bad line of this stream.
+/// Returns the error of a command that reads a stream. The argument `word` is the word for the error in a bad line of
+/// the stream.
 pub(crate) fn stream_error<'a, F: Copy>(
     error: StreamError<F>,
     word: &'static str,
@@ -145,7 +150,7 @@ impl From<DrawError> for CommandError<'_> {
     }
 }
 
-/// Explains the cause of a bad line in a schedule.
+/// Explains why a line of a schedule is bad.
 fn meaning_of(cause: Cause) -> &'static str {
     match cause {
         Cause::UnknownWord => {
@@ -165,7 +170,7 @@ fn meaning_of(cause: Cause) -> &'static str {
     }
 }
 
-/// Writes the line for a device that failed, with the cause if the system reported one.
+/// Writes the line that reports a failed device. If the system reported a cause, the line contains it.
 fn write_device_error(io: Io, name: &str, what: &str) -> io::Result<()> {
     match io.last_error.get() {
         Some(cause) => eprintln!(io.rt; "{name}{what}: {cause}"),
@@ -174,10 +179,10 @@ fn write_device_error(io: Io, name: &str, what: &str) -> io::Result<()> {
 }
 
 impl CommandError<'_> {
-    /// The exit status of a command that ends with this error.
+    /// Returns the exit status of a command that ends with this error.
     fn status(self) -> Status {
         match self {
-            // A reply that is too long is a disagreement.
+            // If a reply is too long, the agent disagrees with the reference.
             CommandError::NotHeld(_, _, ConformError::ReplyTooLong)
             | CommandError::NotShrunk(ConformError::ReplyTooLong) => Status::Refused,
             CommandError::NoMemory
@@ -191,7 +196,8 @@ impl CommandError<'_> {
         }
     }
 
-    /// Writes the line for this error to standard error. The command's input is `file`.
+    /// Writes the line that reports this error to standard error. The argument `file` is the name of the command's
+    /// input.
     fn write_line(self, io: Io, file: Option<&str>) {
         let rt = io.rt;
         let _ = match self {
@@ -226,9 +232,10 @@ impl CommandError<'_> {
         };
     }
 
-    /// Reports on standard error why a command ended, and returns the status. If standard output is a pipe that nobody
-    /// reads any more, for example after `head`, nothing is reported. On a terminal, a second line explains what is
-    /// wrong with a bad line. For a written schedule, a last line has the command that reads it.
+    /// Reports on standard error why a command ended, and returns the exit status. If standard output is a pipe from
+    /// which nobody reads any more, for example because `head` has ended, the function reports nothing. On a terminal,
+    /// a second line explains what is wrong with a bad line. If the file seems to be a written schedule, the last line
+    /// shows the command that reads written schedules.
     pub(crate) fn tell(self, io: Io, file: Option<&str>) -> Status {
         self.write_line(io, file);
         let meaning = match self {

@@ -1,4 +1,5 @@
-//! The commands, each in a separate file: its options and arguments, and what it does with those that clap found.
+//! Lists the commands. The options and arguments of each command are in a separate file, together with the code that
+//! runs the command.
 
 mod clocks;
 mod conform;
@@ -8,6 +9,7 @@ mod judge;
 mod packets;
 mod random;
 mod replay;
+mod timeline;
 mod write;
 
 use crate::command_error::{CommandError, CommandResult, Status};
@@ -17,17 +19,18 @@ use clap::error::ErrorKind;
 use clap::{ArgMatches, Command, Error};
 use std::alloc::{AllocError, Global};
 
-/// The text after the commands in the program's help.
+/// The text that follows the list of commands in the program's help.
 const HELP: &str =
     "Example: serf-replay replay examples/deploy_gossiped_twice.schedule\nActions count from 1, agents from 0. For more, see man serf-replay and docs/COMMANDS.md.";
 
 /// All commands, in the order of the help text.
-const COMMANDS: [CommandRow; 10] = [
+const COMMANDS: [CommandRow; 11] = [
     replay::COMMAND,
     explain::COMMAND,
     draw::COMMAND,
     write::COMMAND,
     judge::COMMAND,
+    timeline::COMMAND,
     conform::COMMAND,
     random::COMMAND,
     packets::DECODE,
@@ -35,7 +38,7 @@ const COMMANDS: [CommandRow; 10] = [
     clocks::COMMAND,
 ];
 
-/// The whole program, as clap needs it.
+/// Returns the description of the whole program that clap needs.
 fn program<'a>(alloc: Global) -> Result<Command<'a>, AllocError> {
     let program = Command::new(alloc, "serf-replay")
         .about(
@@ -48,12 +51,13 @@ fn program<'a>(alloc: Global) -> Result<Command<'a>, AllocError> {
     with_commands(alloc, program, &COMMANDS)
 }
 
-/// What clap finds in `words`, which begin with the program's name.
+/// Returns the matches that clap finds in `words`, the first of which is the program's name.
 fn found_in<'a>(alloc: Global, words: &'a [String]) -> Result<ArgMatches<'a>, Error> {
     program(alloc)?.try_get_matches_from(words)
 }
 
-/// Prints clap's text. Help and the version go to standard output.
+/// Prints clap's text about a command line that doesn't lead to a command. The help and the version are printed to
+/// standard output.
 fn refuse_command_line<'a>(io: Io, error: &Error) -> CommandResult<'a> {
     if error.kind() == ErrorKind::OutOfMemory {
         return Err(CommandError::NoMemory);
@@ -65,13 +69,14 @@ fn refuse_command_line<'a>(io: Io, error: &Error) -> CommandResult<'a> {
     }
 }
 
-/// The command with this name. A command line that names none is refused by clap.
+/// Returns the command that is named `name`. If a command line names no command, clap refuses it before this function
+/// is called.
 fn kind_of(name: &str) -> Option<CommandKind> {
     let mut rows = COMMANDS.iter();
     rows.find(|row| row.name == name).map(|row| row.kind)
 }
 
-/// Runs a command.
+/// Runs the command `kind` with the options and arguments in `matches`.
 fn run_command<'a>(io: Io, kind: CommandKind, matches: &ArgMatches<'a>) -> CommandResult<'a> {
     match kind {
         CommandKind::Replay => replay::run(io, matches),
@@ -80,6 +85,7 @@ fn run_command<'a>(io: Io, kind: CommandKind, matches: &ArgMatches<'a>) -> Comma
         CommandKind::Clocks => clocks::run(io, matches),
         CommandKind::Random => random::run(io, matches),
         CommandKind::Judge => judge::run(io, matches),
+        CommandKind::Timeline => timeline::run(io, matches),
         CommandKind::Explain => explain::run(io, matches),
         CommandKind::Draw => draw::run(io, matches),
         CommandKind::Write => write::run(io, matches),
@@ -87,7 +93,8 @@ fn run_command<'a>(io: Io, kind: CommandKind, matches: &ArgMatches<'a>) -> Comma
     }
 }
 
-/// Does what `words`, the command line, says. If standard error is a terminal, a long run shows its progress there.
+/// Runs the command line `words`, and returns the exit status. If standard error is a terminal, a long run shows its
+/// progress on it.
 pub(crate) fn run(io: Io, words: &[String]) -> Status {
     let (ended, file) = match found_in(io.alloc(), words) {
         Ok(found) => {

@@ -1,4 +1,4 @@
-//! What a command reads and writes: files, the standard streams, and memory.
+//! Provides the commands with access to files, to the standard streams, and to memory.
 
 ghost use Rattle.std.specs.Prelude.{◌≡◌, ◌≤◌, IfOk, length};
 
@@ -13,14 +13,14 @@ use std::fmt::Display;
 use std::fs::{self, File};
 use std::io::{self, ErrorKind, IsTerminal, Read, StdinLock};
 
-/// Access to files, the standard streams and memory, and whether a person reads standard error.
+/// Access to files, the standard streams and memory.
 #[derive(Clone, Copy)]
 pub(crate) struct Io<'a> {
     pub(crate) rt: &'a HostRuntime,
     /// Whether standard error is a terminal.
     pub(crate) is_terminal: bool,
-    /// Whether an agent reads standard output. After the agent has ended, what it doesn't read counts as written,
-    /// because the end is noticed when its replies are read.
+    /// Whether an agent reads standard output. If the agent has ended, writing bytes that it no longer reads is not an
+    /// error, because the program notices the agent's end when it reads the replies.
     pub(crate) has_agent: bool,
     /// The error of the last device call that failed, or `None` if none has failed.
     pub(crate) last_error: &'a Cell<Option<io::Error>>,
@@ -29,7 +29,7 @@ pub(crate) struct Io<'a> {
 /// The byte order mark of UTF-8.
 const MARK: &[u8] = b"\xef\xbb\xbf";
 
-/// What a command reads from.
+/// The place from which a command reads its input.
 #[derive(Drop)]
 enum Input {
     Standard(StdinLock<'static>),
@@ -45,20 +45,21 @@ impl Read for Input {
     }
 }
 
-/// The opened input of a command. In a schedule, a byte order mark is skipped, and a carriage return counts as a space.
+/// The opened input of a command. If the input is a schedule, a byte order mark is skipped, and each carriage return is
+/// replaced with a space.
 #[derive(Drop)]
 pub(crate) struct Source<'a> {
     io: Io<'a>,
     input: Input,
     is_schedule: bool,
-    /// How many bytes were read.
+    /// The number of bytes that have been read so far.
     count: u64,
     progress: Progress<'a>,
 }
 
 impl Read for Source<'_> {
     fn read(&mut self, buf: &mut [u8]) -> io::Result<usize> {
-        let read = self.read_on(buf)?;
+        let read = self.read_more(buf)?;
         self.count = self.count.saturating_add(read as u64);
         self.progress.acted(self.count, u64::MAX);
         if self.is_schedule && buf[..read].contains(&b'\r') {
@@ -78,15 +79,16 @@ fn blank_returns(text: &mut [u8]) {
 }
 
 impl<'a> Source<'a> {
-    /// This source, to be read as a schedule: without a byte order mark, and with spaces in place of carriage returns.
+    /// Turns this source into the source of a schedule, which skips a byte order mark and returns spaces in place of
+    /// carriage returns.
     pub(crate) fn of_schedule(mut self) -> Source<'a> {
         self.is_schedule = true;
         self
     }
 
-    /// Reads more bytes. A byte order mark at the beginning of a schedule is skipped, even if it arrives in several
-    /// reads.
-    fn read_on(&mut self, buf: &mut [u8]) -> io::Result<usize>
+    /// Reads more bytes. The function skips a byte order mark at the beginning of a schedule, even if the mark arrives
+    /// in several reads.
+    fn read_more(&mut self, buf: &mut [u8]) -> io::Result<usize>
         ensures { IfOk result (λ n. n ≤ length buf.old) }
     {
         let read = self.io.noted(self.input.read(buf))?;
@@ -105,8 +107,8 @@ impl<'a> Source<'a> {
         Ok(read - MARK.len())
     }
 
-    /// Reads more if the first `read` bytes of `buf` are only a part of a byte order mark. Returns how many bytes of
-    /// `buf` were read in total.
+    /// If the first `read` bytes of `buf` are only a part of a byte order mark, reads more bytes. Returns the total
+    /// number of bytes in `buf` that have been read.
     fn read_mark(&mut self, buf: &mut [u8], read: usize) -> io::Result<usize>
         requires { read ≤ length buf.old }
         ensures { IfOk result (λ n. n ≤ length buf.old) }
@@ -118,7 +120,7 @@ impl<'a> Source<'a> {
         Ok(read + more)
     }
 
-    /// Reads all bytes of the source.
+    /// Reads the source to its end, and returns all bytes that were read.
     pub(crate) fn text<'b>(mut self) -> Result<Vec<u8>, CommandError<'b>> {
         Ok(read_input(self.io.alloc(), &mut self)?)
     }
@@ -147,7 +149,7 @@ impl Print for Io<'_> {
     }
 }
 
-/// The name of a file in messages, which is `standard input` if there is no file.
+/// Returns the name by which messages refer to a file, or `standard input` if there is no file.
 pub(crate) fn name_of(file: Option<&str>) -> &str {
     match file {
         None | Some("-") => "standard input",
@@ -156,12 +158,12 @@ pub(crate) fn name_of(file: Option<&str>) -> &str {
 }
 
 impl<'a> Io<'a> {
-    /// The allocator of the program.
+    /// Returns the allocator of the program.
     pub(crate) fn alloc(self) -> Global {
         self.rt.alloc()
     }
 
-    /// Returns the outcome of a device call unchanged. If the call failed, remembers the error.
+    /// Returns the outcome of a device call unchanged, and records the error if the call failed.
     pub(crate) fn noted<T>(self, outcome: io::Result<T>) -> io::Result<T>
         ensures { result ≡ outcome }
     {
@@ -171,12 +173,12 @@ impl<'a> Io<'a> {
         outcome
     }
 
-    /// Whether the last error was a write to a pipe that nobody reads any more.
+    /// Returns whether the last error came from a write to a pipe from which nobody reads any more.
     pub(crate) fn has_no_reader(self) -> bool {
         matches!(self.last_error.get(), Some(error) if error.kind() == ErrorKind::BrokenPipe)
     }
 
-    /// A source that reads from `input`, and shows on a terminal how many bytes it has read.
+    /// Returns a source that reads from `input`, and shows on a terminal how many bytes it has read.
     fn source_of(self, input: Input) -> Source<'a> {
         Source {
             io: self,
@@ -202,12 +204,12 @@ impl<'a> Io<'a> {
         Ok(self.source_of(Input::Opened(file)))
     }
 
-    /// Opens a file for reading, or standard input if there is none or if its name is `-`.
+    /// Opens a file for reading. If there is no file, or if its name is `-`, opens standard input instead.
     pub(crate) fn source<'b>(self, file: Option<&'b str>) -> Result<Source<'a>, CommandError<'b>> {
         match file {
             None | Some("-") => {
                 let reader = self.rt.reader();
-                // Somebody who types the input knows how much it is.
+                // No progress is shown when a person types the input, because that person knows how long it is.
                 let is_terminal = self.is_terminal && !reader.is_terminal();
                 let io = Io {
                     is_terminal,
@@ -219,7 +221,7 @@ impl<'a> Io<'a> {
         }
     }
 
-    /// Opens the schedule in the file that the command line names, or on standard input, for reading.
+    /// Opens a schedule for reading, either in the file that the command line names or on standard input.
     pub(crate) fn schedule<'b>(
         self,
         matches: &ArgMatches<'b>,
@@ -227,15 +229,15 @@ impl<'a> Io<'a> {
         Ok(self.source(matches.get_str("FILE"))?.of_schedule())
     }
 
-    /// Writes a text to standard error.
+    /// Writes `text` to standard error.
     pub(crate) fn say(self, text: &[u8]) {
         if let Ok(text) = str::from_utf8(text) {
             let _ = eprint!(self.rt; "{text}");
         }
     }
 
-    /// Writes `text` to standard error, with its blanks filled by `parts`. If memory runs out for it, it reports this
-    /// instead.
+    /// Writes `text` to standard error, with `parts` in place of its placeholders. If there is no memory for the
+    /// complete text, the function reports that memory ran out instead.
     pub(crate) fn report(self, text: &[u8], parts: &[Part]) {
         let mut out = Vec::new(self.alloc());
         match write_template(&mut out, text, parts) {
@@ -244,7 +246,7 @@ impl<'a> Io<'a> {
         }
     }
 
-    /// Writes a text to standard output.
+    /// Writes `text` to standard output.
     pub(crate) fn finish<'b>(self, text: &[u8]) -> CommandResult<'b> {
         match write_output(&mut io::writer(&self), text) {
             Ok(()) => Ok(Status::Done),
@@ -252,7 +254,7 @@ impl<'a> Io<'a> {
         }
     }
 
-    /// Writes a file. Returns `status` if this succeeds.
+    /// Writes `text` to the file `path`, and returns `status` if the write succeeds.
     pub(crate) fn save<'b>(self, path: &str, text: &[u8], status: Status) -> CommandResult<'b> {
         match self.noted(fs::write(self.rt, path, text)) {
             Ok(()) => Ok(status),

@@ -1,4 +1,5 @@
-//! The program `serf-replay`: runs a written schedule of a whole cluster and prints its trace.
+//! The program `serf-replay` runs the schedule of a whole cluster and prints the trace of the run. Its other commands
+//! explain schedules, and check agents and logs.
 #![tactic(auto)]
 
 mod agent_source;
@@ -15,7 +16,7 @@ use std::cell::Cell;
 use std::io::{ErrorKind, IsTerminal};
 use std::process::ExitCode;
 
-/// The words of the command line, which begin with the program's name.
+/// Returns the words of the command line. The first of these words is the program's name.
 fn words_of(io: Io) -> Result<Vec<String>, CommandError<'static>> {
     match std::env::args(io.rt) {
         Ok(args) => Ok(args.collect::<Vec<String>>(io.alloc())?),

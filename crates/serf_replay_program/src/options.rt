@@ -1,5 +1,5 @@
-//! The words of a command line: the options and arguments of each command, as rows, and the meaning of the words of
-//! options.
+//! Describes command lines: the options and arguments of each command, in the form of rows, and the meanings of the
+//! words that options accept.
 
 use crate::command_error::CommandError;
 use clap::builder::ValueParser;
@@ -12,20 +12,21 @@ use std::alloc::{AllocError, Global};
 /// An option or an argument of a command.
 #[derive(Clone, Copy)]
 pub(crate) struct OptionRow {
-    /// The name of the option without its hyphens, or of the argument in the help text.
+    /// The name of the option without its hyphens, or the name of the argument in the help text.
     pub(crate) name: &'static str,
     pub(crate) takes: OptionKind,
     pub(crate) help: &'static str,
 }
 
-/// What follows an option and its name in the help text, or which words an argument accepts.
+/// The kind of an option or argument, which determines what words are accepted and what the help text shows after the
+/// name.
 #[derive(Clone, Copy)]
 pub(crate) enum OptionKind {
-    /// An argument: one word.
+    /// An argument of one word, which may be left out.
     Place,
-    /// An argument of one word, without which the command is refused.
+    /// An argument of one word, which is required.
     Needed,
-    /// An argument that is a number, without which the command is refused.
+    /// An argument that is a number, which is required.
     NeededNumber,
     /// An argument of any number of words.
     Places,
@@ -39,7 +40,7 @@ pub(crate) enum OptionKind {
     Number(&'static str, u64, u64),
 }
 
-/// The commands. `run_command` matches all of them, so none can be forgotten there.
+/// The kinds of commands. The function `run_command` matches all of these kinds, so it can't forget any of them.
 #[derive(Clone, Copy)]
 pub(crate) enum CommandKind {
     Replay,
@@ -47,6 +48,7 @@ pub(crate) enum CommandKind {
     Draw,
     Write,
     Judge,
+    Timeline,
     Conform,
     Random,
     Decode,
@@ -64,7 +66,7 @@ pub(crate) struct CommandRow {
     pub(crate) rows: &'static [OptionRow],
 }
 
-/// The rows of a command, one line for each: a name, what it accepts, and its help text.
+/// Makes the rows of a command. Each row is given as one line, with a name, a kind and a help text.
 macro_rules! rows {
     ($($name:literal $takes:expr => $help:expr;)*) => {
         &[$($crate::options::OptionRow { name: $name, takes: $takes, help: $help }),*]
@@ -76,7 +78,7 @@ pub(crate) use rows;
 /// The help text of the argument that names a schedule.
 pub(crate) const SCHEDULE: &str = "The schedule; standard input if it is left out or `-`";
 
-/// The names of the kinds of random schedules, ending with these words.
+/// Expands to the names of the kinds of random schedules, followed by the words `$last`.
 macro_rules! kinds {
     ($last:literal) => {
         concat!(
@@ -89,10 +91,10 @@ macro_rules! kinds {
 /// The names of the kinds of random schedules.
 pub(crate) const KINDS: &str = kinds!(" or rounds");
 
-/// The names of the kinds of random schedules, and `all`.
+/// The names of the kinds of random schedules, followed by the word `all`.
 pub(crate) const KINDS_OR_ALL: &str = kinds!(", rounds or all");
 
-/// The argument that clap needs for a row.
+/// Returns the argument that clap needs for `row`.
 fn arg_of<'a>(alloc: Global, row: &OptionRow) -> Arg<'a> {
     let OptionRow { name, takes, help } = *row;
     let action = match takes {
@@ -116,7 +118,7 @@ fn arg_of<'a>(alloc: Global, row: &OptionRow) -> Arg<'a> {
     }
 }
 
-/// The command that clap needs for `row`.
+/// Returns the command that clap needs for `row`.
 fn command_of<'a>(alloc: Global, row: &CommandRow) -> Result<Command<'a>, AllocError> {
     let mut command = Command::new(alloc, row.name)
         .about(row.about)
@@ -127,7 +129,7 @@ fn command_of<'a>(alloc: Global, row: &CommandRow) -> Result<Command<'a>, AllocE
     Ok(command)
 }
 
-/// Adds these commands to a program. The help text shows them in this order.
+/// Adds the commands in `rows` to a program. The help text shows these commands in the order of `rows`.
 pub(crate) fn with_commands<'a>(
     alloc: Global,
     program: Command<'a>,
@@ -140,13 +142,14 @@ pub(crate) fn with_commands<'a>(
     Ok(program)
 }
 
-/// The error for an option `name` whose value is none of `words`, the values that it accepts.
+/// Returns the error for a command line on which the option `name` has a value that it doesn't accept. The argument
+/// `words` lists the values that the option accepts.
 pub(crate) fn bad_word<'a>(name: &'a str, words: &'a str) -> CommandError<'a> {
     CommandError::CommandLine("--", name, " accepts ", words, "")
 }
 
-/// The meaning of the option `name` according to `choices`. The first of them is the default. `words` has the values
-/// that the option accepts, for the error message.
+/// Returns what the value of the option `name` means, according to `choices`. If the option is left out, the first
+/// choice is used. The argument `words` lists the accepted values for the error message.
 pub(crate) fn chosen<'a, T: Copy>(
     matches: &ArgMatches,
     name: &'a str,
@@ -162,20 +165,21 @@ pub(crate) fn chosen<'a, T: Copy>(
     Err(bad_word(name, words))
 }
 
-/// Whether the command line selects JSON. The other form is `text`.
+/// Returns whether the command line selects the format `json` rather than `text`.
 pub(crate) fn is_json<'a>(matches: &ArgMatches) -> Result<bool, CommandError<'a>> {
     let forms = [("text", false), ("json", true)];
     chosen(matches, "format", &forms, "text or json")
 }
 
-/// The position of the agent with this name.
+/// Returns the position in `agents` of the agent that is named `name`.
 fn place_named(agents: &[Config], name: &[u8]) -> Option<usize> {
     agents
         .iter()
         .position(|agent| agent.name.as_slice() == name)
 }
 
-/// The position of the agent whose name is this word or, if there is none, the bytes that the word spells in hex.
+/// Returns the position in `agents` of the agent whose name is `word`. If no agent has this name, the function reads
+/// `word` as a name in hex.
 fn place_of_word(
     alloc: Global,
     agents: &[Config],
@@ -192,7 +196,8 @@ fn place_of_word(
     }
 }
 
-/// The number of the agent that a word names. If the word is the number of an agent, it is never read as a name.
+/// Returns the number of the agent to which `word` refers. If `word` is the number of an agent, the function never
+/// reads it as a name.
 fn found<'a>(alloc: Global, agents: &[Config], word: &'a str) -> Result<u64, CommandError<'a>> {
     let count = agents.len() as u64;
     let number = word.parse::<u64>();
@@ -211,7 +216,8 @@ fn found<'a>(alloc: Global, agents: &[Config], word: &'a str) -> Result<u64, Com
     }
 }
 
-/// The numbers of the agents that the command line names, in the schedule with this text. Empty if it names none.
+/// Returns the numbers of those agents in the schedule `text` that the command line names. If the command line names no
+/// agents, the result is empty.
 pub(crate) fn agents_of<'a>(
     alloc: Global,
     matches: &ArgMatches<'a>,

@@ -6,10 +6,11 @@ use serf_text::Part::{self, Number, Text};
 use std::io;
 use std::time::{Duration, Instant};
 
-/// The number of seconds between two lines of a run. A shorter run shows no line.
+/// The number of seconds between two progress lines. A run that takes less time than this shows no progress line.
 const PERIOD_SECONDS: u64 = 1;
 
-/// What a run counts, as its lines name it, and after how many of these the clock is read again.
+/// How the progress of a run is counted: the name of the counted items in progress lines, and the number of items after
+/// which the clock is read again.
 #[derive(Clone, Copy)]
 pub(crate) struct Counted<'a>(&'a str, u64);
 
@@ -21,7 +22,7 @@ pub(crate) const CALLS: Counted<'static> = Counted("calls left out", 1);
 
 pub(crate) const SEEDS: Counted<'static> = Counted("seeds", 1);
 
-/// Writes the kind of schedules that the next line is about, if a kind is given.
+/// If a kind of schedules is given, writes this kind before a progress line.
 pub(crate) fn say_kind(io: Io, kind: Option<&str>) -> io::Result<()> {
     match kind {
         Some(kind) => eprint!(io.rt; "kind {kind}: "),
@@ -29,30 +30,30 @@ pub(crate) fn say_kind(io: Io, kind: Option<&str>) -> io::Result<()> {
     }
 }
 
-/// Shows the progress of a run on standard error once a second, if that is a terminal.
+/// If standard error is a terminal, shows the progress of a run there once a second.
 ///
-/// If the clock can't be read, or if the terminal accepts nothing, no more lines are shown, and the run continues.
+/// If the clock can't be read, or if the terminal refuses a line, the run continues without any more progress lines.
 #[derive(Drop)]
 pub(crate) struct Progress<'a> {
     io: Io<'a>,
-    /// When the last line was shown or, before the first line, when the run began. It is `None` if nothing will be
-    /// shown.
+    /// The time when the last progress line was shown or, before the first line, when the run began. The value is
+    /// `None` if no line will be shown.
     since: Option<Instant>,
     counted: Counted<'a>,
-    /// The kind of the schedules that are made, if the line names it.
+    /// The kind of the schedules that are made, or `None` if progress lines show no kind.
     kind: Option<&'a str>,
-    /// How many were done before the run that reports its progress now.
+    /// The number of items that earlier runs completed before the current run began.
     before: u64,
 }
 
 impl<'a> Progress<'a> {
-    /// From now on, lines name the kind `kind`, if there is one, and add `before` to what the run reports as done.
-    pub(crate) fn goes_on(&mut self, kind: Option<&'static str>, before: u64) {
+    /// Makes all following progress lines show `kind`, if it is given, and add `before` to their counts.
+    pub(crate) fn resume(&mut self, kind: Option<&'static str>, before: u64) {
         self.kind = kind;
         self.before = before;
     }
 
-    /// The progress of a run that begins now.
+    /// Creates the progress display of a run that begins now.
     pub(crate) fn of(io: Io<'a>, counted: Counted<'static>) -> Progress<'a> {
         let since = if io.is_terminal {
             Instant::now(io.rt).ok()
@@ -68,8 +69,9 @@ impl<'a> Progress<'a> {
         }
     }
 
-    /// Shows a line if it is time for one. If the total is unknown, the line has no total. Returns the time of the last
-    /// line that was shown, or `None` if no more lines will be shown.
+    /// If the previous progress line is at least a second old, shows the next line. If the total `all` is unknown, the
+    /// line contains no total. Returns the time of the last line that was shown, or `None` if no more lines will be
+    /// shown.
     fn show(&self, since: Instant, done: u64, all: u64) -> Option<Instant> {
         let now = Instant::now(self.io.rt).ok()?;
         if now.duration_since(since) < Duration::from_secs(PERIOD_SECONDS) {

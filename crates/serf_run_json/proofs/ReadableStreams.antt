@@ -29,7 +29,7 @@ halted streams error bytes first now s =
     record {
       lines = s.lines;
       left = s.left;
-      cut = s.cut;
+      splits = s.splits;
       schedule = h.said;
       reads = h.reads;
       text = s.text;

@@ -17,11 +17,11 @@ pub whole : {T : Type 0} (explains : Bool) (objects : T → RunObjects) (run : R
 whole explains objects run bytes text count s counted = record { schedule = s.2.said; reads = s.2.reads; tells = s.2.tells.2; counted = counted }
 
 halted-by : (error : StreamError Cause) (bytes : List ℕ) (lines left : List (List ℕ)) → lines_of bytes ≡ lines ++ left → IsCauseBy is_refused_by error lines left → IsHaltedBy error bytes lines left
-halted-by errors.ReadError bytes lines left cut h = h
-halted-by (errors.BadLine number cause) bytes lines left cut h = (h.3, ap schedule_in (cut ∙ ap (λ (l : List (List ℕ)). lines ++ l) h.2) ∙ h.4 h.1)
-halted-by (errors.LineTooLong number) bytes lines left cut h = h
-halted-by errors.OutOfMemory bytes lines left cut h = tt
-halted-by errors.WriteError bytes lines left cut h = tt
+halted-by errors.ReadError bytes lines left splits h = h
+halted-by (errors.BadLine number cause) bytes lines left splits h = (h.3, ap schedule_in (splits ∙ ap (λ (l : List (List ℕ)). lines ++ l) h.2) ∙ h.4 h.1)
+halted-by (errors.LineTooLong number) bytes lines left splits h = h
+halted-by errors.OutOfMemory bytes lines left splits h = tt
+halted-by errors.WriteError bytes lines left splits h = tt
 
 pub halted : {T : Type 0} (explains : Bool) (objects : T → RunObjects) (error : StreamError Cause) (bytes : List ℕ) (first now : Option (List ℕ))
     → StopsAt (HasStreamedObjects explains objects) is_refused_by error (lines_of bytes) first now → IsObjectsHalted explains error bytes first now
@@ -30,11 +30,11 @@ halted explains objects error bytes first now s =
     record {
       lines = s.lines;
       left = s.left;
-      cut = s.cut;
+      splits = s.splits;
       schedule = t.2.said;
       reads = t.2.reads;
       text = s.text;
       tells = t.2.tells.2;
       written = s.written;
-      cause = halted-by error bytes s.lines s.left s.cut s.cause;
+      cause = halted-by error bytes s.lines s.left s.splits s.cause;
     }

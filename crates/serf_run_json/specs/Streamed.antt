@@ -15,7 +15,7 @@ use Rattle.serf_run_json.specs.Objects.{TellsObjects}
 pub record IsObjectsHalted (explains : Bool) (error : StreamError Cause) (bytes : List ℕ) (first now : Option (List ℕ)) : Type 0 where
   pub lines : List (List ℕ)
   pub left : List (List ℕ)
-  pub cut : lines_of bytes ≡ lines ++ left
+  pub splits : lines_of bytes ≡ lines ++ left
   pub schedule : Parsed
   pub reads : schedule_in lines ≡ Ok schedule
   pub text : List ℕ

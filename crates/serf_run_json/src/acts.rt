@@ -1,4 +1,4 @@
-//! What an action does, as members of its object.
+//! Makes the JSON members that describe an action in its object.
 
 ghost use Rattle.std.specs.Prelude.{◌≡◌};
 ghost use Rattle.serf_model.specs.Trace.{actor_of};
@@ -11,7 +11,7 @@ use serf_model::{Act, Action, NewQuery, SinkCall};
 use serf_schedule::verb_word;
 use serf_world::World;
 
-/// The members that say which agent it is: its number, and its name if there is such an agent.
+/// Returns the JSON members that identify an agent: its number and, if an agent with this number exists, its name.
 #[tactic(auto, unfolding(serf_json::specs::Object::members_text, crate::specs::Members::agent_text, crate::specs::Members::number_member))]
 pub(crate) fn agent_members(world: &World, number: u64) -> (Member<'_>, Member<'_>)
     ensures { pair_text result ≡ agent_text (settings_of world.now) number }
@@ -25,7 +25,7 @@ pub(crate) fn agent_members(world: &World, number: u64) -> (Member<'_>, Member<'
     }
 }
 
-/// The members of the agent that acts. An injection has none.
+/// Returns the JSON members that identify the agent that acts. For an injection, both members are absent.
 #[tactic(auto, unfolding(serf_json::specs::Object::members_text))]
 pub(crate) fn actor_members<'a>(world: &'a World, action: &Action) -> (Member<'a>, Member<'a>)
     ensures { pair_text result ≡ actor_text (settings_of world.now) (actor_of action.now) }
@@ -36,7 +36,7 @@ pub(crate) fn actor_members<'a>(world: &'a World, action: &Action) -> (Member<'a
     }
 }
 
-/// The word for a call to the disk.
+/// Returns the word that schedules use for a call to the disk.
 fn disk_word(call: SinkCall) -> &'static [u8]
     ensures { result.now ≡ sink_call_word call }
 {
@@ -48,7 +48,7 @@ fn disk_word(call: SinkCall) -> &'static [u8]
     }
 }
 
-/// The word for an action.
+/// Returns the word that names an action in a schedule.
 pub(crate) fn call_word(action: &Action) -> &'static [u8]
     ensures { result.now ≡ call_word action.now }
 {
@@ -58,7 +58,7 @@ pub(crate) fn call_word(action: &Action) -> &'static [u8]
     }
 }
 
-/// The members with the arguments of an action.
+/// Returns the JSON members that contain the arguments of an action.
 #[tactic(auto, unfolding(serf_json::specs::Object::members_text))]
 pub(crate) fn call_members(action: &Action) -> (Member<'_>, Member<'_>, Member<'_>)
     ensures { triple_text result ≡ arguments_text action.now }
@@ -69,7 +69,7 @@ pub(crate) fn call_members(action: &Action) -> (Member<'_>, Member<'_>, Member<'
     }
 }
 
-/// The members with the arguments of a query that is fired.
+/// Returns the JSON members that contain the arguments of an act that fires a query.
 #[tactic(auto, unfolding(serf_json::specs::Object::members_text, crate::specs::Members::act_text, crate::specs::Members::number_member))]
 fn query_members(query: &NewQuery) -> (Member<'_>, Member<'_>, Member<'_>)
     ensures { triple_text result ≡ act_text (Act.Query query.now) }
@@ -81,7 +81,7 @@ fn query_members(query: &NewQuery) -> (Member<'_>, Member<'_>, Member<'_>)
     )
 }
 
-/// The members with the arguments of an event that is fired.
+/// Returns the JSON members that contain the arguments of an act that fires an event.
 #[tactic(auto, unfolding(serf_json::specs::Object::members_text, crate::specs::Members::act_text, crate::specs::Members::flag_member))]
 fn fire_members<'a>(
     name: &'a [u8],
@@ -97,7 +97,7 @@ fn fire_members<'a>(
     )
 }
 
-/// The members with the arguments of an answer to a query.
+/// Returns the JSON members that contain the arguments of an act that responds to a query.
 #[tactic(auto, unfolding(serf_json::specs::Object::members_text, crate::specs::Members::act_text, crate::specs::Members::number_member))]
 fn respond_members(handed: u64, now: u64, payload: &[u8]) -> (Member<'_>, Member<'_>, Member<'_>)
     ensures { triple_text result ≡ act_text (Act.Respond handed now payload.now) }
@@ -109,7 +109,7 @@ fn respond_members(handed: u64, now: u64, payload: &[u8]) -> (Member<'_>, Member
     )
 }
 
-/// The members with the arguments of a restart.
+/// Returns the JSON members that contain the arguments of a restart.
 #[tactic(auto, unfolding(serf_json::specs::Object::members_text, crate::specs::Members::act_text))]
 fn restart_members(tail: &[u8]) -> (Member<'_>, Member<'_>, Member<'_>)
     ensures { triple_text result ≡ act_text (Act.Restart tail.now) }
@@ -117,7 +117,7 @@ fn restart_members(tail: &[u8]) -> (Member<'_>, Member<'_>, Member<'_>)
     (Bytes(b"tail", tail), Absent, Absent)
 }
 
-/// The members with the arguments of a call to the disk that is to fail.
+/// Returns the JSON members that contain the arguments of an act that makes a call to the disk fail.
 #[tactic(auto, unfolding(serf_json::specs::Object::members_text, crate::specs::Members::act_text, crate::specs::Members::number_member, crate::specs::Members::text_member))]
 fn break_members<'a>(call: SinkCall, count: u64) -> (Member<'a>, Member<'a>, Member<'a>)
     ensures { triple_text result ≡ act_text (Act.Break call count) }
@@ -129,7 +129,7 @@ fn break_members<'a>(call: SinkCall, count: u64) -> (Member<'a>, Member<'a>, Mem
     )
 }
 
-/// The members with the arguments of what an agent does.
+/// Returns the JSON members that contain the arguments of an agent's act.
 #[tactic(auto, unfolding(serf_json::specs::Object::members_text, crate::specs::Members::act_text, crate::specs::Members::flag_member, crate::specs::Members::number_member))]
 fn act_members(act: &Act) -> (Member<'_>, Member<'_>, Member<'_>)
     ensures { triple_text result ≡ act_text act.now }

@@ -1,4 +1,4 @@
-//! The events that a merged state carries.
+//! Lists the events that a merged state carries.
 
 use serf_wire::{EventView, EventViews, Message, SlotView, SlotViews, decode};
 use std::alloc::{AllocError, Global};
@@ -12,7 +12,7 @@ pub(crate) struct CarriedEvent<'a> {
     pub(crate) payload: &'a [u8],
 }
 
-/// Appends an event of a slot.
+/// Appends to `events` one event from a slot.
 fn add_event<'a>(
     events: &mut Vec<CarriedEvent<'a>>,
     slot: u64,
@@ -28,7 +28,7 @@ fn add_event<'a>(
     Ok(())
 }
 
-/// Appends the events of a slot that has several.
+/// Appends to `events` the events from a slot that contains several.
 fn add_events<'a>(
     events: &mut Vec<CarriedEvent<'a>>,
     slot: u64,
@@ -41,7 +41,7 @@ fn add_events<'a>(
     Ok(())
 }
 
-/// Appends the events of a slot.
+/// Appends to `events` all events from a slot.
 fn add_slot<'a>(
     events: &mut Vec<CarriedEvent<'a>>,
     slot: u64,
@@ -54,7 +54,7 @@ fn add_slot<'a>(
     }
 }
 
-/// The events of these slots, which are numbered from 0.
+/// Returns the events in all of `slots`. The slots are numbered from 0.
 fn events_in<'a>(alloc: Global, slots: SlotViews<'a>) -> Result<Vec<CarriedEvent<'a>>, AllocError> {
     let mut events = Vec::new(alloc);
     let mut slot: u64 = 0;
@@ -65,7 +65,7 @@ fn events_in<'a>(alloc: Global, slots: SlotViews<'a>) -> Result<Vec<CarriedEvent
     Ok(events)
 }
 
-/// The events of `message` if it is a state. Any other message has none.
+/// If `message` is a state, returns the events in it. For any other message, the result is empty.
 fn events_of<'a>(
     alloc: Global,
     message: &Message<'a>,
@@ -76,7 +76,8 @@ fn events_of<'a>(
     }
 }
 
-/// The events of the state in `packet`, in order. Empty if the packet contains no state.
+/// Returns the events that the state in `packet` carries, in order. The result is empty if the packet contains no
+/// state.
 pub(crate) fn carried_events<'a>(
     alloc: Global,
     packet: &'a [u8],

@@ -1,4 +1,4 @@
-//! The whole job: reads a schedule, and writes the objects of its run, either at the end or line by line.
+//! Reads a whole schedule, and writes the objects of its run, either after the whole run or line by line.
 
 ghost use Rattle.std.specs.Prelude.{◌≡◌, ◌<◌, ◌≤◌, ◌+◌, List, ℕ, Err, length, true, false, IfOk, IfErr, IfSome, IsErrOf};
 ghost use Rattle.std.specs.Io.KnownBytes.{Appends, Consumes, IsAtEnd};
@@ -16,15 +16,17 @@ use serf_text::{Cause, MAX_SCHEDULE_BYTES, StreamError, report_lines};
 use std::alloc::Global;
 use std::io::{Read, Write};
 
-/// Reads a schedule to its end, and writes the objects of its run: before the first action those of the agents'
-/// settings, for each action in the range the objects of its results, and if `explains`, those of its reasons and of
-/// the state of the agent that acted. Returns the number of actions in the schedule.
+/// Reads a schedule to its end, and writes the objects of its run. The objects begin with the agents' settings, which
+/// are followed by the results of each action in `range`. If `explains` is true, the results of each action are
+/// followed by the action's reasons, and then by the state of the agent that acted. Returns the number of actions in
+/// the schedule.
 ///
-/// Without `explains`, the clauses say exactly what is written. With it, they allow objects of the kinds `reason` and
-/// `state` after the results of each action in the range. What these contain is tested, but no clause covers it.
+/// If `explains` is false, the clauses define exactly the bytes that are written. If `explains` is true, the clauses
+/// allow objects of the kinds `reason` and `state` after the results of each action in the range. The contents of these
+/// two kinds of objects are checked by tests, but no clause covers them.
 ///
-/// Nothing is written before the whole schedule has been read, parsed and run. The errors are those of
-/// `serf_replay::replay`, under the same conditions. `watch` is called for each action of the run that is done.
+/// The function writes nothing before the whole schedule has been read, parsed and run. The function returns the same
+/// errors as `serf_replay::replay`, under the same conditions. The function calls `watch` after each action of the run.
 pub fn run_objects<R: Read, W: Write, T: Watch>(
     alloc: Global,
     reader: &mut R,
@@ -42,7 +44,8 @@ pub fn run_objects<R: Read, W: Write, T: Watch>(
     ensures bad_line { (line : ℕ) (cause : Cause) → IsErrOf result (ReplayError.BadLine line cause)
         → IfSome (R.remaining reader.old) (λ input. (length input ≤ MAX_SCHEDULE_BYTES)
         × (output_of input ≡ Err (record { line = line; cause = cause }))) }
-    // If the write failed, a prefix of this text was written. After any other error, nothing was written.
+    // If the write failed, only a prefix of the text of the objects was written. After any other error, nothing was
+    // written.
     ensures front { IsErrOf result ReplayError.WriteError
         → IfSome (R.remaining reader.old) (λ input. (text : List ℕ) × (count : ℕ)
         × ReportsObjects range.now explains input text count
@@ -50,7 +53,7 @@ pub fn run_objects<R: Read, W: Write, T: Watch>(
         × AppendsFront (W.contents writer.old) (W.contents writer.new) text) }
     ensures nothing { IfErr result (λ error. (error ≡ ReplayError.WriteError → ⊥)
         → writer.new ≡ writer.old) }
-    // It reads at most one byte more than the longest allowed schedule has.
+    // The function reads at most one byte more than the maximum length of a schedule.
     ensures bounded { (bytes : List ℕ)
         × Consumes (R.remaining reader.old) (R.remaining reader.new) bytes
         × (length bytes ≤ MAX_SCHEDULE_BYTES + 1) }
@@ -106,11 +109,11 @@ fn stream_reasoned<R: Read, W: Write>(
     }
 }
 
-/// Reads a schedule line by line, and writes the objects of each action, as [`run_objects`] does for all actions,
-/// before the next line is read. Returns the number of actions in the schedule.
+/// Reads a schedule line by line, and writes the objects of each action before it reads the next line. The objects are
+/// those that [`run_objects`] writes for the range of all actions. Returns the number of actions in the schedule.
 ///
-/// A line that isn't valid is refused after the objects of the lines before it are written. There is no limit on the
-/// length of the whole schedule, but a line has at most 16,777,216 bytes.
+/// If a line isn't valid, the function refuses it, but only after it has written the objects of all lines before it.
+/// The schedule may have any length, but each of its lines may have at most 16,777,216 bytes.
 pub fn stream_objects<R: Read, W: Write>(
     alloc: Global,
     reader: &mut R,
@@ -122,8 +125,8 @@ pub fn stream_objects<R: Read, W: Write>(
         × Consumes (R.remaining reader.old) (R.remaining reader.new) bytes
         × IsAtEnd (R.remaining reader.new) × ReportsObjects all_actions explains bytes text count
         × Appends (W.contents writer.old) (W.contents writer.new) text) }
-    // Some of the lines that were read were executed, and their objects were written. If the write failed, only a
-    // prefix of them was.
+    // The function ran some of the lines that it had read, and wrote the objects of those lines. If the write failed,
+    // only a prefix of the objects was written.
     ensures stopped { IfErr result (λ error. (bytes : List ℕ)
         × Consumes (R.remaining reader.old) (R.remaining reader.new) bytes
         × IsObjectsHalted explains error bytes (W.contents writer.old) (W.contents writer.new)) }

@@ -1,6 +1,7 @@
-//! A run of a schedule as data for other programs: objects of JSON, one a line. There is an object for each agent, for
-//! each action with its answer, for each packet that was sent, for each event and each query that was handed out, and
-//! if reasons are requested, for each reason, and for the state of the agent that acted.
+//! Writes the run of a schedule as data for other programs: JSON objects, one per line. The run has an object for each
+//! agent, for each action with its answer, for each packet that was sent, and for each event and each query that was
+//! handed out. If the caller requests reasons, each action also has an object for each of its reasons, and one for the
+//! state of the agent that acted.
 #![tactic(auto)]
 
 mod acts;

@@ -1,4 +1,4 @@
-//! The messages in packets, as objects and as members of other objects.
+//! Writes the messages in packets, as objects and as members of other objects.
 
 ghost use Rattle.std.specs.Prelude.{◌≡◌, ◌++◌, [], List, ℕ, Ok, Err, IfErr, IfOk, OnOk};
 ghost use Rattle.std.specs.List.{list_any};
@@ -21,7 +21,8 @@ use serf_wire::{Message, WireError, decode};
 use std::alloc::{AllocError, Global};
 use std::io::{Read, Write};
 
-/// The members about a message: its time, its ID, its name or its sender, and its payload, as far as it has them.
+/// Returns the JSON members that describe a message: its time, its ID, its name or sender, and its payload. If the
+/// message doesn't have one of these, the member for it is absent.
 #[tactic(auto, unfolding(serf_json::specs::Object::members_text))]
 pub(crate) fn message_members<'a>(message: &Message<'a>) -> [Member<'a>; 4]
     ensures { members_text result ≡ said_members (message_of message.now) }
@@ -49,10 +50,10 @@ pub(crate) fn message_members<'a>(message: &Message<'a>) -> [Member<'a>; 4]
     }
 }
 
-/// No members.
+/// The JSON members that describe a message when all of them are absent.
 pub(crate) const NOTHING: [Member<'static>; 4] = [Absent, Absent, Absent, Absent];
 
-/// The members about the message in `packet`.
+/// Returns the JSON members that describe the message in `packet`.
 #[tactic(auto, unfolding(serf_json::specs::Object::members_text))]
 pub(crate) fn packet_members(packet: &[u8]) -> [Member<'_>; 4]
     ensures { members_text result ≡ decoded_members (decoded packet.now) }
@@ -63,8 +64,8 @@ pub(crate) fn packet_members(packet: &[u8]) -> [Member<'_>; 4]
     }
 }
 
-/// The members about a message that only some messages have: whether an event may be coalesced, and the clocks of a
-/// state.
+/// Returns the JSON members that only messages of some kinds have: whether an event may be coalesced, and the clocks in
+/// a state.
 #[tactic(auto, unfolding(serf_json::specs::Object::members_text, crate::specs::Members::number_member, crate::specs::Members::flag_member))]
 fn own_members<'a>(message: &Message) -> [Member<'a>; 3]
     ensures { members_text result ≡ own_members (message_of message.now) }
@@ -80,7 +81,7 @@ fn own_members<'a>(message: &Message) -> [Member<'a>; 3]
     }
 }
 
-/// The word for the type of `message`, with which its text begins.
+/// Returns the word for the type of `message`. The text of the message begins with this word.
 fn type_word(message: &Message) -> &'static [u8]
     ensures { result.now ≡ type_word (message_of message.now) }
 {
@@ -93,7 +94,8 @@ fn type_word(message: &Message) -> &'static [u8]
     }
 }
 
-/// The member with the number of a packet's line, if it was read from one.
+/// Returns the JSON member that contains the number of the line from which a packet was read, or an absent member if
+/// `line` is `None`.
 #[tactic(auto, unfolding(crate::specs::Members::number_member))]
 fn line_member<'a>(line: Option<u64>) -> Member<'a>
     ensures { member_text result ≡ member_of_line line }
@@ -104,7 +106,7 @@ fn line_member<'a>(line: Option<u64>) -> Member<'a>
     }
 }
 
-/// Appends the object of `message`, which `packet` spells.
+/// Appends an object for `message`, which is the message in `packet`.
 fn write_message_object<'a>(
     alloc: Global,
     out: &mut Vec<u8>,
@@ -131,7 +133,7 @@ fn write_message_object<'a>(
     write_joined(out, b"message", &front, &own_members(message))
 }
 
-/// Appends the object of the refusal of `packet`, whose first error is `error`.
+/// Appends the object that reports why `packet` was refused. The argument `error` is the first error in the packet.
 fn write_refusal(
     alloc: Global,
     out: &mut Vec<u8>,
@@ -152,16 +154,19 @@ fn write_refusal(
     write_object(out, b"refused", &members)
 }
 
-/// Appends a line with the object of `packet`: of the message that it spells, or of its refusal. `line` is the number
-/// of the packet's line, if it was read from one. Returns whether the packet is refused.
+/// Appends a line with an object for `packet`, which describes either the message in the packet or the reason why the
+/// packet was refused. If the packet was read from a line, `line` is the number of that line. Returns whether the
+/// packet was refused.
 ///
-/// The object of a message is of the kind `message`. Its members are the line, if there is one, the packet in hex, the
-/// message's type, its time, its ID, its name or its sender, and its payload, as far as it has them, its text as
-/// [`serf_text::decode_text`] returns it, and last what only some messages have: whether an event may be coalesced, and
-/// the clocks of a state. The object of a refused packet is of the kind `refused`, with the line, the packet and the
-/// words for its first error.
+/// If the packet contains a message, its object is of the kind `message`. This object begins with the number of the
+/// line (if there is one), the packet in hex, and the type of the message. After that, it contains the message's time,
+/// its ID, its name or sender, its payload, and its text, as [`serf_text::decode_text`] returns it. The last members of
+/// the object show whether an event may be coalesced, or contain the clocks in a state. If the message doesn't have one
+/// of these properties, the member for it is absent. If the packet was refused, its object is of the kind `refused`,
+/// and contains the number of the line (if there is one), the packet in hex, and the words for the packet's first
+/// error.
 ///
-/// After an `AllocError`, which means that memory ran out, `out` may have a prefix of the line.
+/// If memory runs out (`AllocError`), only a prefix of the line may have been appended to `out`.
 pub fn packet_object(
     alloc: Global,
     out: &mut Vec<u8>,
@@ -184,8 +189,8 @@ pub fn packet_object(
     }
 }
 
-/// Writes the object of the packet on each line. `number` is the number of the next line, counted from 1, and
-/// `is_refused` says whether a packet was refused so far.
+/// Writes an object for the packet on each line. The field `number` is the number of the next line, counted from 1, and
+/// `is_refused` is true if any packet has been refused so far.
 #[derive(Drop)]
 struct PacketObjects<'a, N> {
     notes: &'a mut N,
@@ -202,14 +207,14 @@ impl<N: FramingNotes> LineJob for PacketObjects<'_, N> {
 
     type OwnError = BadHex;
 
-    // After some lines, the job knows how many they are, and whether one of their packets was refused.
+    // After each line, the job stores the number of the next line, and whether any packet so far was refused.
     ghost follows = { λ job lines. (job.number ≡ number_after lines)
         × (job.is_refused ≡ list_any refuses_line lines) };
 
     ghost answer = { line_object };
 
-    /// Writes the object of `line`, a packet in hex, to `text`, which is empty before. A line without bytes has no
-    /// object.
+    /// Writes an object for the packet in `line`, which is in hex, to the empty buffer `text`. If the line is empty, no
+    /// object is written.
     fn read_line(
         &mut self,
         alloc: Global,
@@ -239,26 +244,27 @@ impl<N: FramingNotes> LineJob for PacketObjects<'_, N> {
     }
 }
 
-/// Reads packets in hex, one on each line, and writes a line with an object for each, as [`packet_object`] does with
-/// the number of the line, counted from 1. A line without bytes has no object. The value in `Ok` says whether a packet
-/// was refused. `notes` is called for each packet that begins like a message of memberlist.
+/// Reads packets in hex, one on each line, and writes a line with an object for each packet, as [`packet_object`] does.
+/// Each object contains the number of the packet's line, counted from 1. For an empty line, the function writes no
+/// object. The value in `Ok` is true if any packet was refused. The function calls `notes` for each packet that begins
+/// like one of memberlist's own messages.
 ///
-/// The objects of all complete lines are written before more is read. A line may have up to 16,777,216 bytes, and there
-/// may be any number of lines. Above 2^64 - 1, the numbers of lines stay at that. A line that is not hex ends the
-/// reading, after the objects of the lines before it.
+/// The function writes the objects for all complete lines before it reads more. A line may have up to 16,777,216 bytes,
+/// and there may be any number of lines. The line numbers stop at 2^64 - 1, which is also the number of all later
+/// lines. If a line isn't hex, the function writes the objects for all lines before it, and then stops.
 pub fn decode_objects<R: Read, W: Write, N: FramingNotes>(
     alloc: Global,
     reader: &mut R,
     writer: &mut W,
     notes: &mut N,
 ) -> Result<bool, StreamError<BadHex>>
-    // The objects of all lines were written, and nothing else.
+    // Exactly the objects for all lines were written.
     ensures done { IfOk result (λ is_refused. (bytes text : List ℕ)
         × Consumes (R.remaining reader.old) (R.remaining reader.new) bytes
         × IsAtEnd (R.remaining reader.new) × (text_after line_object [] (lines_of bytes) ≡ Ok text)
         × Appends (W.contents writer.old) (W.contents writer.new) text
         × (is_refused ≡ list_any refuses_line (lines_of bytes))) }
-    // The objects of some of the lines that were read were written. What else holds for them depends on the error.
+    // Objects were written for some of the lines that were read. The error determines which other facts hold.
     ensures stopped { IfErr result (λ error. (bytes : List ℕ)
         × Consumes (R.remaining reader.old) (R.remaining reader.new) bytes
         × IsStopped line_object error (lines_of bytes) (W.contents writer.old)

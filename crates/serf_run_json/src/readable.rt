@@ -1,5 +1,6 @@
-//! A run for people: a line for each action, with the name of the agent and the answer, and then a line for each packet
-//! that was sent, in words, and for each event or query that was handed out.
+//! Writes a run in a form that people can read easily. Each action has a line that contains the name of the agent and
+//! the answer. After this line, there is a line in words for each packet that the action sent, and a line for each
+//! event or query that it handed out.
 
 ghost use Rattle.std.specs.Prelude.{◌≡◌, ◌<◌, ◌≤◌, ◌+◌, ◌-◌, ◌^◌, ◌++◌, List, ℕ, Ok, Err, IfErr, IfSome, IsErrOf, OnOk, codes, length, min};
 ghost use Rattle.std.specs.List.{flat_map};
@@ -25,7 +26,8 @@ use serf_world::{Turns, World};
 use std::alloc::{AllocError, Global};
 use std::io::{Read, Write};
 
-/// Appends a space and the name of agent number `number` in quotes, or its number if there is no such agent.
+/// Appends a space and the name of agent number `number` in quotes. If no agent has this number, appends the number
+/// itself instead of a name.
 fn write_agent(out: &mut Vec<u8>, world: &World, number: u64) -> Result<(), AllocError>
     ensures { OnOk result (out.new.items ≡ out.old.items
         ++ agent_text (settings_of world.now) number) }
@@ -36,7 +38,8 @@ fn write_agent(out: &mut Vec<u8>, world: &World, number: u64) -> Result<(), Allo
     }
 }
 
-/// Appends the agent that acts, as [`write_agent`] does. An injection has none.
+/// Appends the name or number of the agent that acts, as [`write_agent`] does. For an injection, in which no agent
+/// acts, appends nothing.
 fn write_actor(out: &mut Vec<u8>, world: &World, actor: Option<u64>) -> Result<(), AllocError>
     ensures { OnOk result (out.new.items ≡ out.old.items
         ++ actor_text (settings_of world.now) actor) }
@@ -47,7 +50,7 @@ fn write_actor(out: &mut Vec<u8>, world: &World, actor: Option<u64>) -> Result<(
     }
 }
 
-/// Appends the arguments of what an agent does, each after a space.
+/// Appends the arguments of an agent's act, each preceded by a space.
 fn write_arguments(out: &mut Vec<u8>, act: &Act) -> Result<(), AllocError>
     ensures { OnOk result (out.new.items ≡ out.old.items ++ arguments_text act.now) }
 {
@@ -88,7 +91,7 @@ fn end_line(out: &mut Vec<u8>) -> Result<(), AllocError>
     out.extend_from_slice(b"\n")
 }
 
-/// Appends what an action does: its word, and the arguments of what its agent does.
+/// Appends the word that names an action, and the arguments of its agent's act.
 fn write_call_text(out: &mut Vec<u8>, action: &Action) -> Result<(), AllocError>
     ensures { OnOk result (out.new.items ≡ out.old.items ++ call_text action.now) }
 {
@@ -99,7 +102,7 @@ fn write_call_text(out: &mut Vec<u8>, action: &Action) -> Result<(), AllocError>
     }
 }
 
-/// Appends the line of an action: its number, its agent, what it does, and its answer.
+/// Appends the line of an action, which consists of the action's number, agent, word, arguments and answer.
 #[tactic(auto, unfolding(crate::specs::Readable::call_line))]
 fn write_call(
     out: &mut Vec<u8>,
@@ -120,7 +123,7 @@ fn write_call(
     end_line(out)
 }
 
-/// How many events there are. The number stops at 2^64 - 1.
+/// Returns the number of events in `events`, or 2^64 - 1 if there are more.
 fn count_of(events: EventViews) -> u64
     ensures { result ≡ min (length (events_left events.entry)) (2 ^ 64 - 1) }
 {
@@ -131,7 +134,7 @@ fn count_of(events: EventViews) -> u64
     count
 }
 
-/// How many events a slot has. The number stops at 2^64 - 1.
+/// Returns the number of events in `slot`, or 2^64 - 1 if there are more.
 fn count_in(slot: &SlotView) -> u64
     ensures { result ≡ min (count_of_slot (slot_of_view slot.now)) (2 ^ 64 - 1) }
 {
@@ -142,7 +145,7 @@ fn count_in(slot: &SlotView) -> u64
     }
 }
 
-/// How many events these slots have. The number stops at 2^64 - 1.
+/// Returns the number of events in all of `slots`, or 2^64 - 1 if there are more.
 fn event_count(slots: SlotViews) -> u64
     ensures { result ≡ count_of_slots (slots_left slots.entry) }
 {
@@ -153,7 +156,7 @@ fn event_count(slots: SlotViews) -> u64
     count
 }
 
-/// Appends what a message is, in words.
+/// Appends to `out` words that describe `message`.
 fn write_message(out: &mut Vec<u8>, message: &Message) -> Result<(), AllocError>
     ensures { OnOk result (out.new.items ≡ out.old.items
         ++ message_words (message_of message.now)) }
@@ -185,7 +188,7 @@ fn write_message(out: &mut Vec<u8>, message: &Message) -> Result<(), AllocError>
     }
 }
 
-/// Appends what a packet is, in words.
+/// Appends to `out` words that describe `packet`.
 fn write_packet(out: &mut Vec<u8>, packet: &[u8]) -> Result<(), AllocError>
     ensures { OnOk result (out.new.items ≡ out.old.items ++ packet_words packet.now) }
 {
@@ -198,7 +201,7 @@ fn write_packet(out: &mut Vec<u8>, packet: &[u8]) -> Result<(), AllocError>
     }
 }
 
-/// Returns packet number `number`, counted from 0, or no bytes if fewer were sent.
+/// Returns packet number `number`, counted from 0, or an empty slice if there is no packet with this number.
 fn sent_packet(world: &World, number: u64) -> &[u8]
     ensures { result.now ≡ packet_of world.now.sent number }
 {
@@ -293,8 +296,8 @@ fn write_event_lines(
     Ok(())
 }
 
-/// Appends the lines of action number `number`: what it does, with its answer, each packet that it sent, and each event
-/// and the query that it handed out. `world` is the cluster after the action.
+/// Appends the lines of action number `number`: the action with its answer, each packet that it sent, and each event
+/// and the query that it handed out. The argument `world` is the cluster as it is after the action.
 #[tactic(auto, unfolding(crate::specs::Readable::action_text))]
 fn write_turn(
     out: &mut Vec<u8>,
@@ -315,13 +318,14 @@ fn write_turn(
     }
 }
 
-/// Writes the text of a run for people.
+/// Writes a run as text that people can read easily.
 ///
-/// An action has a line with its number, counted from 1, the agent that acts, what it does, and its answer. Then follow
-/// a line for each packet that it sent, one for each event that it handed out, and one for the query that it handed
-/// out, if any. A packet is described by its message, or by its length if it spells none. An agent is called by its
-/// name, or by its number if there is no such agent. Names and payloads are between quotes. If one has more than 64
-/// bytes, only its beginning and its length are shown.
+/// Each action has a line with its number (counted from 1), the agent that acts, the word and the arguments of the
+/// action, and the answer. After the line of an action, there is a line for each packet that the action sent, for each
+/// event that it handed out, and for the query that it handed out, if it handed one out. A packet is described by the
+/// message that it contains, or by its length if it contains no message. The text refers to an agent by its name, or by
+/// its number if no agent has this number. All names and payloads are in quotes. If a name or payload has more than 64
+/// bytes, the text shows only its beginning and its length.
 #[derive(Drop)]
 pub struct RunText;
 
@@ -366,11 +370,11 @@ impl Turns for RunText {
     }
 }
 
-/// Reads a schedule to its end, and writes the text of its run, as [`RunText`] says. `watch` is called for each action
-/// of the run that is done.
+/// Reads a schedule to its end, and writes the text of its run, which has the form of [`RunText`]. The function calls
+/// `watch` after each action of the run.
 ///
-/// It reads at most 16,777,217 bytes, and writes nothing before the whole schedule has been read, parsed and run. The
-/// errors are those of `serf_replay::replay`, under the same conditions.
+/// The function reads at most 16,777,217 bytes, and writes nothing before the whole schedule has been read, parsed and
+/// run. The function returns the same errors as `serf_replay::replay`, under the same conditions.
 pub fn readable_run<R: Read, W: Write, T: Watch>(
     alloc: Global,
     reader: &mut R,
@@ -385,14 +389,14 @@ pub fn readable_run<R: Read, W: Write, T: Watch>(
     ensures bad_line { (line : ℕ) (cause : Cause) → IsErrOf result (ReplayError.BadLine line cause)
         → IfSome (R.remaining reader.old) (λ input. (length input ≤ MAX_SCHEDULE_BYTES)
         × (readable_of input ≡ Err (record { line = line; cause = cause }))) }
-    // If the write failed, a prefix of this text was written. After any other error, nothing was written.
+    // If the write failed, only a prefix of the run's text was written. After any other error, nothing was written.
     ensures front { IsErrOf result ReplayError.WriteError
         → IfSome (R.remaining reader.old) (λ input. (text : List ℕ)
         × (readable_of input ≡ Ok text) × (length input ≤ MAX_SCHEDULE_BYTES)
         × AppendsFront (W.contents writer.old) (W.contents writer.new) text) }
     ensures nothing { IfErr result (λ error. (error ≡ ReplayError.WriteError → ⊥)
         → writer.new ≡ writer.old) }
-    // It reads at most one byte more than the longest allowed schedule has.
+    // The function reads at most one byte more than the maximum length of a schedule.
     ensures bounded { (bytes : List ℕ)
         × Consumes (R.remaining reader.old) (R.remaining reader.new) bytes
         × (length bytes ≤ MAX_SCHEDULE_BYTES + 1) }
@@ -403,10 +407,12 @@ pub fn readable_run<R: Read, W: Write, T: Watch>(
     }
 }
 
-/// Reads a schedule line by line, and writes the text of each action before more is read, as [`RunText`] says.
+/// Reads a schedule line by line, and writes the text of each action before it reads more of the schedule. The text has
+/// the form of [`RunText`].
 ///
-/// The text is exactly what [`readable_run`] writes. A line that is refused there is refused here too, after the text
-/// of the actions before it. A schedule may have any length, and a line may have up to 16,777,216 bytes.
+/// The text is exactly the one that [`readable_run`] writes. If [`readable_run`] refuses a line, this function refuses
+/// it too, but only after it has written the text of all actions before that line. The schedule may have any length,
+/// but each of its lines may have at most 16,777,216 bytes.
 pub fn stream_readable<R: Read, W: Write>(
     alloc: Global,
     reader: &mut R,
@@ -417,8 +423,8 @@ pub fn stream_readable<R: Read, W: Write>(
         × Consumes (R.remaining reader.old) (R.remaining reader.new) bytes
         × IsAtEnd (R.remaining reader.new) × (readable_of bytes ≡ Ok text)
         × Appends (W.contents writer.old) (W.contents writer.new) text) }
-    // Some of the lines that were read were done, and the text of their run was written. If the write failed, only a
-    // prefix of it was.
+    // The function ran some of the lines that it had read, and wrote the text of their run. If the write failed, only a
+    // prefix of that text was written.
     ensures stopped { IfErr result (λ error. (bytes : List ℕ)
         × Consumes (R.remaining reader.old) (R.remaining reader.new) bytes
         × IsHalted error bytes (W.contents writer.old) (W.contents writer.new)) }

@@ -1,4 +1,5 @@
-//! The reasons of an action: the sentences of the plain text, each with a code and with the numbers that belong to it.
+//! Writes the reasons of an action: each sentence of the plain text, together with a code and with the numbers that
+//! belong to the sentence.
 
 ghost use Rattle.std.specs.Prelude.{OnOk, codes};
 ghost use Rattle.serf_run_json.specs.Objects.{AddsObjects};
@@ -17,27 +18,29 @@ use serf_wire::{Message, decode};
 use serf_world::World;
 use std::alloc::{AllocError, Global};
 
-/// The reason in a line of the plain text, without the action's number and `because`. Any other line has none.
+/// Returns the reason in a line of the plain text, without the action's number and the word `because`. If the line
+/// contains no reason, returns `None`.
 fn reason_in(line: &[u8]) -> Option<&[u8]> {
     let (_number, rest) = split_once(line, b' ');
     rest?.strip_prefix(b"because ")
 }
 
-/// What follows a text in quotes, and its length if it was cut. Such a text has no quote inside.
+/// Returns the part of `text` that follows the first text in quotes. A text in quotes never contains a quote itself.
 fn after_quoted(text: &[u8]) -> &[u8] {
     let (_front, rest) = split_once(text, b'"');
     let (_quoted, rest) = split_once(rest.unwrap_or(&[]), b'"');
     rest.unwrap_or(&[])
 }
 
-/// The words of a reason that begins with `slot`, after the event that it names.
+/// Returns the verdict in a reason that begins with the word `slot`. In such a reason, the verdict follows the name and
+/// the payload of an event.
 fn verdict_in(reason: &[u8]) -> &[u8] {
     let rest = after_quoted(after_quoted(reason));
     let (_length, verdict) = split_once(rest, b':');
     verdict.unwrap_or(&[])
 }
 
-/// The first words of the verdict on an event of a state, and its code.
+/// The first words of each verdict on an event in a state, and the code of this verdict.
 const VERDICTS: [(&[u8], &[u8]); 7] = [
     (b" new, and handed out", b"new"),
     (b" new, but ", b"SinkFault"),
@@ -48,7 +51,7 @@ const VERDICTS: [(&[u8], &[u8]); 7] = [
     (b" too many of its time: ", b"TimeFull"),
 ];
 
-/// The code of a reason that begins with `slot`.
+/// Returns the code of a reason that begins with the word `slot`.
 fn verdict_code(reason: &[u8]) -> &'static [u8] {
     let verdict = verdict_in(reason);
     for (words, code) in VERDICTS.iter() {
@@ -59,7 +62,7 @@ fn verdict_code(reason: &[u8]) -> &'static [u8] {
     b"merged"
 }
 
-/// The code of a reason of a merge that names no event.
+/// Returns the code of a reason that names no event, when the action is a merge.
 fn merge_code(reason: &[u8], answer: &Answer) -> &'static [u8] {
     if reason.starts_with(b"the join ignores old events") {
         b"raised"
@@ -70,7 +73,8 @@ fn merge_code(reason: &[u8], answer: &Answer) -> &'static [u8] {
     }
 }
 
-/// The number of the action that a reason ends with, as `at action 3`. Any other reason has none.
+/// If a reason ends in an action's number, as in `at action 3`, returns the JSON member `earlier` with this number. For
+/// any other reason, returns an absent member.
 fn earlier_action<'a>(reason: &[u8]) -> Member<'a> {
     let mut words = reason.rsplit(|byte| *byte == b' ');
     let (Some(last), Some(before)) = (words.next(), words.next()) else {
@@ -82,7 +86,7 @@ fn earlier_action<'a>(reason: &[u8]) -> Member<'a> {
     }
 }
 
-/// The limits that an agent has for events.
+/// Returns the JSON members that contain an agent's limits for events.
 fn event_limits<'a>(agent: &Agent<MemorySink>) -> [Member<'a>; 3] {
     [
         Number(b"minimum", agent.event_minimum()),
@@ -91,7 +95,7 @@ fn event_limits<'a>(agent: &Agent<MemorySink>) -> [Member<'a>; 3] {
     ]
 }
 
-/// The limits that an agent has for queries.
+/// Returns the JSON members that contain an agent's limits for queries.
 fn query_limits<'a>(agent: &Agent<MemorySink>) -> [Member<'a>; 3] {
     [
         Number(b"minimum", agent.query_minimum()),
@@ -100,7 +104,7 @@ fn query_limits<'a>(agent: &Agent<MemorySink>) -> [Member<'a>; 3] {
     ]
 }
 
-/// The members about an event that a state carries.
+/// Returns the JSON members that describe an event in a state.
 fn carried_members<'a>(event: &CarriedEvent<'a>) -> [Member<'a>; 4] {
     [
         Number(b"time", event.time),
@@ -110,7 +114,7 @@ fn carried_members<'a>(event: &CarriedEvent<'a>) -> [Member<'a>; 4] {
     ]
 }
 
-/// The limits that an agent has for messages of the kind of `message`.
+/// Returns the JSON members that contain an agent's limits for messages of the same kind as `message`.
 fn message_limits<'a>(agent: &Agent<MemorySink>, message: &Message) -> [Member<'a>; 3] {
     match message {
         Message::UserEvent(_) | Message::PushPull(_) => event_limits(agent),
@@ -119,7 +123,8 @@ fn message_limits<'a>(agent: &Agent<MemorySink>, message: &Message) -> [Member<'
     }
 }
 
-/// The limits of the agent that acted, for messages of the kind of the one in `packet`.
+/// Returns the JSON members that contain the acting agent's limits for messages of the same kind as the message in
+/// `packet`.
 fn limits_of<'a>(world: &World, action: &Action, packet: &[u8]) -> [Member<'a>; 3] {
     let none = [Absent, Absent, Absent];
     let Some(actor) = action.actor() else {
@@ -134,20 +139,20 @@ fn limits_of<'a>(world: &World, action: &Action, packet: &[u8]) -> [Member<'a>; 
     }
 }
 
-/// What the reasons of an action have in common.
+/// The JSON members that all reasons of an action have in common.
 #[derive(Clone, Copy)]
 struct Reasons<'a> {
     number: u64,
     agent: (Member<'a>, Member<'a>),
     /// The first word of the action's answer.
     answer: &'static [u8],
-    /// The number of the packet that the action passes to its agent.
+    /// The JSON member that contains the number of the packet that the action passes to its agent.
     packet: Member<'a>,
     about: [Member<'a>; 4],
     limits: [Member<'a>; 3],
 }
 
-/// The member with the number of the packet that an action passes to its agent.
+/// Returns the JSON member that contains the number of the packet that an action passes to its agent.
 fn packet_member<'a>(action: &Action) -> Member<'a> {
     match action {
         Action::Of {
@@ -158,7 +163,8 @@ fn packet_member<'a>(action: &Action) -> Member<'a> {
     }
 }
 
-/// Appends the object of a reason. `about` has the members about the event or the message that it is about.
+/// Appends the object of a reason. The argument `about` contains the JSON members that describe the event or the
+/// message to which the reason applies.
 fn write_reason<'a>(
     out: &mut Vec<u8>,
     reasons: &Reasons<'a>,
@@ -191,8 +197,9 @@ fn write_reason<'a>(
     write_joined(out, b"reason", &front, &rest)
 }
 
-/// Appends the object of the reason `reason`. The state that is merged carries the events `carried`, and the reasons
-/// above are about those before the index `next`. Returns that index after this reason.
+/// Appends the object of the reason in `reason`. The argument `carried` contains the events that the merged state
+/// carries, and `next` is the index of the first event that no earlier reason covers. Returns the index of the first
+/// event that is still not covered after the new reason.
 fn write_next<'a>(
     out: &mut Vec<u8>,
     reasons: &Reasons<'a>,
@@ -230,7 +237,8 @@ fn write_next<'a>(
     Ok(next.saturating_add(1))
 }
 
-/// Appends the object of each reason in `text`, the plain text of an action, that follows the action's lines.
+/// Appends an object for each reason in `text`. In `text`, which is the plain text of an action, the reasons follow the
+/// action's lines.
 pub(crate) fn write_reasons<'a>(
     alloc: Global,
     out: &mut Vec<u8>,

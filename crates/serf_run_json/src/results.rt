@@ -1,4 +1,5 @@
-//! The result of an action: its answer, what it sent, and what it handed out.
+//! Writes the results of an action: its answer, the packets that it sent, and the events and the query that it handed
+//! out.
 
 ghost use Rattle.std.specs.Prelude.{◌≡◌, ◌++◌, IfOk, OnOk, codes};
 ghost use Rattle.std.specs.List.{flat_map};
@@ -18,7 +19,8 @@ use serf_wire::Bytes as Packet;
 use serf_world::World;
 use std::alloc::{AllocError, Global};
 
-/// The answer's first word, and its code: the reason why something is ignored or refused.
+/// Returns the answer's first word and, if the agent ignored or refused the call, the answer's code. The code of an
+/// answer is the reason why the agent ignored or refused the call.
 pub(crate) fn answer_and_code(answer: &Answer) -> (&'static [u8], Option<&'static [u8]>)
     ensures word { result.0.now ≡ answer_word answer.now }
     ensures code { option_copied result.1 ≡ answer_code answer.now }
@@ -31,7 +33,7 @@ pub(crate) fn answer_and_code(answer: &Answer) -> (&'static [u8], Option<&'stati
     }
 }
 
-/// The code of an answer, or its first word if it has no code.
+/// Returns the code of an answer, or the answer's first word if there is no code.
 pub(crate) fn code_of(answer: &Answer) -> &'static [u8] {
     match answer_and_code(answer) {
         (_, Some(code)) => code,
@@ -39,7 +41,7 @@ pub(crate) fn code_of(answer: &Answer) -> &'static [u8] {
     }
 }
 
-/// The members with the numbers of an answer.
+/// Returns the JSON members that contain the numbers in an answer.
 #[tactic(auto, unfolding(serf_json::specs::Object::members_text, crate::specs::Members::number_member, crate::specs::Results::numbers_text))]
 fn number_members<'a>(answer: &Answer) -> (Member<'a>, Member<'a>, Member<'a>)
     ensures { triple_text result ≡ numbers_text answer.now }
@@ -63,7 +65,8 @@ fn number_members<'a>(answer: &Answer) -> (Member<'a>, Member<'a>, Member<'a>)
     }
 }
 
-/// The words for the error of a packet that was refused. Any other answer has none.
+/// If the answer reports that a packet was refused, returns the words that describe the packet's error. For any other
+/// answer, returns `None`.
 fn error_words(alloc: Global, answer: &Answer) -> Result<Option<Vec<u8>>, AllocError>
     ensures { IfOk result (λ words. option_map (λ w. w.items) words ≡ answer_error answer.now) }
 {
@@ -75,7 +78,7 @@ fn error_words(alloc: Global, answer: &Answer) -> Result<Option<Vec<u8>>, AllocE
     Ok(Some(words))
 }
 
-/// The member with the code of an answer, if it has one.
+/// Returns the JSON member that contains the code of an answer, or an absent member if there is no code.
 #[tactic(auto, unfolding(crate::specs::Members::text_member))]
 fn code_member(code: Option<&[u8]>) -> Member<'_>
     ensures { member_text result ≡ code_text (option_copied code.entry) }
@@ -86,7 +89,7 @@ fn code_member(code: Option<&[u8]>) -> Member<'_>
     }
 }
 
-/// The member with the words for an error, if there is one.
+/// Returns the JSON member that contains the words for an error, or an absent member if there is no error.
 #[tactic(auto, unfolding(crate::specs::Members::text_member))]
 fn error_member(words: &Option<Vec<u8>>) -> Member<'_>
     ensures { member_text result ≡ error_text (option_map (λ w. w.items) words.now) }
@@ -97,7 +100,7 @@ fn error_member(words: &Option<Vec<u8>>) -> Member<'_>
     }
 }
 
-/// Appends the object of an action, with its arguments and its answer.
+/// Appends the object of an action, which contains the action's arguments and its answer.
 fn write_call<'a>(
     alloc: Global,
     out: &mut Vec<u8>,
@@ -129,7 +132,7 @@ fn write_call<'a>(
     write_joined(out, b"action", &call, &told)
 }
 
-/// Packet number `number` of `sent`, or no bytes if there is none.
+/// Returns packet number `number` in `sent`, or an empty slice if there is no packet with this number.
 fn packet_bytes(sent: &[Packet], number: u64) -> &[u8]
     ensures { result.now ≡ packet_of sent.now number }
 {
@@ -209,7 +212,7 @@ fn write_query<'a>(
     write_object(out, b"query", &members)
 }
 
-/// Appends the object of each packet among `packets`, which action number `number` sent.
+/// Appends an object for each of `packets`, which are the numbers of the packets that action number `number` sent.
 fn write_all_sent(
     alloc: Global,
     out: &mut Vec<u8>,
@@ -226,7 +229,7 @@ fn write_all_sent(
     Ok(())
 }
 
-/// Appends the object of each event among `events`, which action number `number` handed out.
+/// Appends an object for each of `events`, which are the events that action number `number` handed out.
 fn write_events(
     out: &mut Vec<u8>,
     world: &World,
@@ -242,8 +245,9 @@ fn write_events(
     Ok(())
 }
 
-/// Appends the objects of an action: the action with its answer, each packet that it sent, and each event and the query
-/// that it handed out. After an `AllocError`, which means that memory ran out, `out` may have a prefix of them.
+/// Appends the objects of an action: one for the action with its answer, one for each packet that it sent, one for each
+/// event that it handed out, and one for the query that it handed out. If memory runs out (`AllocError`), only a prefix
+/// of the action's objects may have been appended to `out`.
 #[tactic(auto, unfolding(crate::specs::Results::results_text))]
 pub(crate) fn write_results(
     alloc: Global,

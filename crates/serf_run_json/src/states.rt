@@ -1,4 +1,4 @@
-//! The settings of agents, and their state: clocks, minimum times, open queries, and the text of the snapshot.
+//! Writes the settings of agents, and their states: clocks, minimum times, open queries, and the text of the snapshot.
 
 ghost use Rattle.std.specs.Prelude.{◌≡◌, ◌++◌, OnOk, codes};
 ghost use Rattle.serf_run_json.specs.Members.{settings_of};
@@ -15,7 +15,7 @@ use serf_snapshot::MemorySink;
 use serf_world::World;
 use std::alloc::{AllocError, Global};
 
-/// The numbers of an agent's state.
+/// The numbers in an agent's state.
 #[derive(Clone, Copy)]
 pub struct StateNumbers {
     clock: u64,
@@ -23,11 +23,11 @@ pub struct StateNumbers {
     query_clock: u64,
     event_minimum: u64,
     query_minimum: u64,
-    /// The length of the text that the disk has.
+    /// The length of the text on the disk, in bytes.
     bytes: usize,
 }
 
-/// The numbers of `agent`'s state.
+/// Returns the numbers in the state of `agent`.
 fn numbers_of(agent: &Agent<MemorySink>) -> StateNumbers {
     StateNumbers {
         clock: agent.member_time(),
@@ -39,19 +39,19 @@ fn numbers_of(agent: &Agent<MemorySink>) -> StateNumbers {
     }
 }
 
-/// The numbers of the state of the agent that is about to act, if there is one.
+/// Returns the numbers in the state of the agent that is about to act, or `None` if no agent acts.
 pub(crate) fn numbers_before(world: &World, action: &Action) -> Option<StateNumbers> {
     Some(numbers_of(world.agent(action.actor()?)?))
 }
 
-/// A query that an agent fired, by its time.
+/// A query that an agent fired, identified by its time.
 #[derive(Clone, Copy)]
 pub(crate) struct FiredQuery {
     pub(crate) agent: u64,
     pub(crate) time: Time,
 }
 
-/// The times of the queries among `fired_queries` that agent number `number` has open.
+/// Returns the times of those queries in `fired_queries` that agent number `number` fired and that are still open.
 fn open_times(
     alloc: Global,
     agent: &Agent<MemorySink>,
@@ -67,9 +67,9 @@ fn open_times(
     Ok(times)
 }
 
-/// Appends the state of agent number `number` after action number `action`. `before` has the numbers of its state
-/// before it, and `times` are the times of its open queries. Of the text that its disk has, only what follows the first
-/// `from` bytes is written.
+/// Appends the object that shows the state of agent number `number` after action number `action`. The argument `before`
+/// contains the numbers in the agent's state before the action, and `times` contains the times of the agent's open
+/// queries. The object contains the text on the agent's disk, but without the first `from` bytes of this text.
 fn write_numbers<'a>(
     out: &mut Vec<u8>,
     world: &'a World,
@@ -112,8 +112,8 @@ fn write_numbers<'a>(
     write_joined(out, b"state", &clocks, &rest)
 }
 
-/// How many bytes of the text that the disk had before an action are still there, at the beginning of its text: none if
-/// the action may have replaced the text.
+/// Returns how many bytes at the beginning of the text on the disk were left unchanged by an action. If the action may
+/// have replaced the whole text, the result is 0.
 fn kept_bytes(action: &Action, before: usize, now: usize) -> usize {
     match action {
         Action::Of {
@@ -125,8 +125,8 @@ fn kept_bytes(action: &Action, before: usize, now: usize) -> usize {
     }
 }
 
-/// Appends the state of the agent that acted. `before` has the numbers of its state before it. Appends nothing if no
-/// agent acted.
+/// Appends the object that shows the state of the agent that acted, or nothing if no agent acted. The argument `before`
+/// contains the numbers in the state that the agent had before the action.
 pub(crate) fn write_state(
     alloc: Global,
     out: &mut Vec<u8>,
@@ -161,7 +161,7 @@ pub(crate) fn write_state(
     )
 }
 
-/// Appends the settings of agent number `number`.
+/// Appends the object that contains the settings of agent number `number`.
 #[tactic(auto, unfolding(serf_json::specs::Object::members_text, crate::specs::Members::flag_member, crate::specs::Members::number_member, crate::specs::Settings::settings_members))]
 fn write_settings(out: &mut Vec<u8>, number: u64, config: &Config) -> Result<(), AllocError>
     ensures { OnOk result (out.new.items ≡ out.old.items ++ settings_object number config.now) }
@@ -182,7 +182,8 @@ fn write_settings(out: &mut Vec<u8>, number: u64, config: &Config) -> Result<(),
     write_object(out, b"agent", &members)
 }
 
-/// Appends the settings of each agent. After an `AllocError`, `out` may have a prefix of them.
+/// Appends an object with the settings of each agent. If memory runs out (`AllocError`), only a prefix of these objects
+/// may have been appended to `out`.
 pub(crate) fn write_agents(out: &mut Vec<u8>, world: &World) -> Result<(), AllocError>
     ensures { OnOk result (out.new.items ≡ out.old.items ++ agents_text 0 (settings_of world.now)) }
 {

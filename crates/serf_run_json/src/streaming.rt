@@ -1,5 +1,5 @@
-//! Tellers for the objects of a schedule that is run line by line: one without reasons, and one with reasons. They are
-//! two types, so that the contracts know which one it is while lines are read.
+//! Writes the objects of a schedule that is run line by line, either without reasons or with them. Each of the two ways
+//! has its own type, so that the contracts show which way is used while lines are read.
 
 ghost use Rattle.std.specs.Prelude.{◌≡◌, [], List, true, false};
 ghost use Rattle.serf_agent.specs.declared.config.Config.{Config};
@@ -27,7 +27,7 @@ pub(crate) struct PlainObjects {
 }
 
 impl PlainObjects {
-    /// Starts the objects of a run that has done no action yet.
+    /// Creates a writer of objects for a run in which no action has been performed yet.
     pub(crate) fn new(alloc: Global) -> PlainObjects
         ensures { (configs : List Config)
             → HasObjects (all_actions, false) result.objects configs [] [] }
@@ -91,7 +91,7 @@ pub(crate) struct ReasonedObjects {
 }
 
 impl ReasonedObjects {
-    /// Starts the objects of a run that has done no action yet.
+    /// Creates a writer of objects for a run in which no action has been performed yet.
     pub(crate) fn new(alloc: Global) -> ReasonedObjects
         ensures { (configs : List Config)
             → HasObjects (all_actions, true) result.objects configs [] [] }

@@ -16,24 +16,24 @@ use serf_model::{Action, Answer, Line};
 use serf_world::{Turns, World};
 use std::alloc::{AllocError, Global};
 
-/// Writes the objects of a run, with reasons and states or without them.
+/// Writes the objects of a run, either with reasons and states or without them.
 #[derive(Drop)]
 pub struct RunObjects {
-    /// Writes the plain text of each turn, which has the reasons.
+    /// Writes the plain text of each turn, which contains the reasons.
     reasoning: Reasoning,
-    /// The plain text of the turn.
+    /// The plain text of the current turn.
     text: Vec<u8>,
     range: Range,
     /// Whether reasons and states are written.
     explains: bool,
-    /// The queries that were fired.
+    /// The queries that agents have fired so far.
     fired_queries: Vec<FiredQuery>,
 }
 
 impl RunObjects {
-    /// Starts the objects of a run that has done no action yet. Only the actions in `range` are written, with reasons
-    /// and states if `explains`. The settings of the agents are written before the first action, whatever the range is.
-    /// Allocates no memory.
+    /// Creates a writer of objects for a run in which no action has been performed yet. The writer writes only the
+    /// objects of the actions in `range` and, if `explains` is true, their reasons and states. Before the first action,
+    /// the writer writes the agents' settings, whatever the range is. The function allocates no memory.
     pub fn new(alloc: Global, range: Range, explains: bool) -> RunObjects
         ensures { (configs : List Config) → HasObjects (range, explains) result configs [] [] }
     {
@@ -47,7 +47,7 @@ impl RunObjects {
     }
 }
 
-/// Remembers the query that an action fired, if it fired one.
+/// If an action fired a query, records this query.
 fn record(
     fired_queries: &mut Vec<FiredQuery>,
     action: &Action,
@@ -61,7 +61,7 @@ fn record(
     Ok(())
 }
 
-/// Appends the settings of each agent before the first action.
+/// If `number` is 1, which is the number of the first action, appends the settings of each agent.
 fn write_front(out: &mut Vec<u8>, world: &World, number: u64) -> Result<(), AllocError>
     ensures { OnOk result (out.new.items ≡ out.old.items
         ++ (if number == 1 then agents_text 0 (settings_of world.now) else [])) }
@@ -72,7 +72,7 @@ fn write_front(out: &mut Vec<u8>, world: &World, number: u64) -> Result<(), Allo
     Ok(())
 }
 
-/// Appends the objects of an action's results if the action is shown.
+/// If the action is shown, appends the objects of its results.
 fn write_shown(
     alloc: Global,
     out: &mut Vec<u8>,
@@ -92,8 +92,9 @@ fn write_shown(
     Ok(())
 }
 
-/// Makes the plain text of an action, `text`, and appends the objects of its reasons and of the state of the agent that
-/// acted, if the action is shown. `before` has the numbers of the agent's state before the action.
+/// Writes the plain text of an action to `text`. If the action is shown, the function also appends the objects of its
+/// reasons, and the object of the state of the agent that acted. The argument `before` contains the numbers in the
+/// state that the agent had before the action.
 fn write_explanation(
     alloc: Global,
     out: &mut Vec<u8>,
@@ -124,7 +125,7 @@ impl Turns for RunObjects {
     ghost use Rattle.serf_explain.specs.Range.{all_actions};
     ghost use Rattle.serf_run_json.specs.Teller.{HasObjects};
 
-    /// The range of the actions that are written, and whether reasons and states are written.
+    /// The range of the actions whose objects are written, and whether reasons and states are written as well.
     type Options = (Range, bool);
 
     type Seen = Option<StateNumbers>;

@@ -14,7 +14,7 @@ use Rattle.serf_schedule.specs.Schedule.{schedule_in}
 pub record Halts (told : Parsed → List ℕ → Type 0) (error : StreamError Cause) (bytes : List ℕ) (first now : Option (List ℕ)) : Type 0 where
   pub lines : List (List ℕ)
   pub left : List (List ℕ)
-  pub cut : lines_of bytes ≡ lines ++ left
+  pub splits : lines_of bytes ≡ lines ++ left
   pub schedule : Parsed
   pub reads : schedule_in lines ≡ Ok schedule
   pub text : List ℕ

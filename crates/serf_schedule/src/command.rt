@@ -1,4 +1,4 @@
-//! Reads and writes the first word of a schedule's line, which says what the line is about.
+//! Reads and writes the first word of a schedule's line, which names the line's command.
 
 ghost use Rattle.std.specs.Prelude.{◌≡◌};
 ghost use Rattle.serf_schedule.specs.Command.{bare_of, bare_act, command_of, count_of, verb_word};
@@ -6,16 +6,16 @@ ghost use Rattle.serf_schedule.specs.Command.{bare_of, bare_act, command_of, cou
 use serf_model::Act;
 use serf_text::is_word;
 
-/// What a line of a schedule is about, as its first word says.
+/// The command of a schedule's line, which is the first word of the line.
 #[derive(Clone, Copy, PartialEq, Eq)]
 pub enum Command {
-    /// An agent of the cluster, with its settings.
+    /// The line adds an agent with its settings to the cluster.
     Agent,
-    /// Bytes that are sent as a packet, although no agent created them.
+    /// The line injects bytes, which are sent as a packet although no agent created them.
     Inject,
-    /// A query that an agent fires. Its line may have any number of filters.
+    /// An agent fires a query. The line may have any number of filters.
     Query,
-    /// Anything else that an agent does. Its line has as many words as [`Verb::count`] returns.
+    /// An agent does anything else. The line has as many words as [`Verb::count`] returns.
     Act(Verb),
 }
 

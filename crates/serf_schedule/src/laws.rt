@@ -20,8 +20,9 @@ pub fn lines_stay()
     ensures follow { LinesFollow }
 {}
 
-/// States that a line adds at most one action to the schedule before it, and an agent only if there is no action yet.
-/// After an action, the line adds the same to every schedule, or is refused for the same cause. Does nothing.
+/// States that a line adds at most one action to the schedule before it, and that it adds an agent only if there is no
+/// action yet. After the first action, a line adds the same to every schedule, or is refused for the same cause. Does
+/// nothing.
 pub fn lines_grow()
     ensures grow { LinesGrow }
     ensures late { LateLinesAddSame }

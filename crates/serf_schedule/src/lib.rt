@@ -1,5 +1,5 @@
-//! Reads, writes and runs schedules, and writes the traces of their runs. A schedule that was written is read back as
-//! the same schedule.
+//! Reads, writes and runs schedules, and writes the traces of their runs. If a schedule is written and then read, the
+//! result is the same schedule.
 #![tactic(auto)]
 
 mod command;

@@ -29,8 +29,8 @@ const MAX_TIMEOUT: u64 = i64::MAX as u64;
 /// The maximum value of a query's flags: 1 requests acks, 2 means no broadcast, and 3 means both.
 const MAX_FLAGS: u64 = 3;
 
-/// Returns how many events, or queries, of one time an agent accepts: the eighth word of its line, or the default if
-/// the line has only seven words.
+/// Returns how many events, and how many queries, of the same time an agent accepts. This is the eighth word of its
+/// line, or the default if the line has only seven words.
 #[tactic(auto, unfolding(crate::specs::Line::per_time_in))]
 fn per_time(words: &[&[u8]]) -> Result<u64, LineError>
     ensures { Gives (λ n. n) result (per_time_in (map (λ w. w.now) words.now)) }
@@ -83,7 +83,7 @@ pub(crate) fn agent(alloc: Global, words: &[&[u8]]) -> Result<Config, LineError>
     })
 }
 
-/// Reads a `fire` line: from place 3 on, it has the name of the event, its payload and its coalesce flag.
+/// Reads a `fire` line. From place 3 on, the line has the name of the event, its payload and its coalesce flag.
 #[tactic(auto, unfolding(crate::specs::Line::firing_of))]
 fn firing(alloc: Global, words: &[&[u8]]) -> Result<Act, LineError>
     requires { length words.now ≡ 5 }
@@ -99,7 +99,7 @@ fn firing(alloc: Global, words: &[&[u8]]) -> Result<Act, LineError>
     })
 }
 
-/// Reads a `merge` line: from place 3 on, it has the number of the packet with the state, and `sync` or `join`.
+/// Reads a `merge` line. From place 3 on, the line has the number of the packet with the state, and `sync` or `join`.
 #[tactic(auto, unfolding(crate::specs::Line::merging_of))]
 fn merging(words: &[&[u8]]) -> Result<Act, LineError>
     requires { length words.now ≡ 4 }
@@ -110,7 +110,7 @@ fn merging(words: &[&[u8]]) -> Result<Act, LineError>
     Ok(Act::Merge { packet, join })
 }
 
-/// Reads a `respond` line: from place 3 on, it has the number of the query, the moment and the payload.
+/// Reads a `respond` line. From place 3 on, the line has the number of the query, the moment and the payload.
 #[tactic(auto, unfolding(crate::specs::Line::answer_of))]
 fn answer(alloc: Global, words: &[&[u8]]) -> Result<Act, LineError>
     requires { length words.now ≡ 5 }
@@ -126,7 +126,7 @@ fn answer(alloc: Global, words: &[&[u8]]) -> Result<Act, LineError>
     })
 }
 
-/// Reads a `restart` line: at place 3, it has the tail, which follows the text that the agent's sink keeps.
+/// Reads a `restart` line. At place 3, the line has the tail: the bytes that follow the text in the agent's sink.
 #[tactic(auto, unfolding(crate::specs::Line::restart_of))]
 fn restarting(alloc: Global, words: &[&[u8]]) -> Result<Act, LineError>
     requires { length words.now ≡ 3 }
@@ -136,7 +136,7 @@ fn restarting(alloc: Global, words: &[&[u8]]) -> Result<Act, LineError>
     Ok(Act::Restart { tail })
 }
 
-/// Reads a `break` line: from place 3 on, it has the kind of the sink call that is to fail, and the number of this
+/// Reads a `break` line. From place 3 on, the line has the kind of sink call that will fail, and the number of this
 /// call, counted from 1.
 #[tactic(auto, unfolding(crate::specs::Line::break_of))]
 fn breaking(words: &[&[u8]]) -> Result<Act, LineError>
@@ -148,7 +148,7 @@ fn breaking(words: &[&[u8]]) -> Result<Act, LineError>
     Ok(Act::Break { call, count })
 }
 
-/// Reads a `close` line, which closes an agent's queries: at place 3, it has the moment, in nanoseconds.
+/// Reads a `close` line, which closes an agent's queries. At place 3, the line has the moment, in nanoseconds.
 #[tactic(auto, unfolding(crate::specs::Line::closing_of))]
 fn closing(words: &[&[u8]]) -> Result<Act, LineError>
     requires { length words.now ≡ 3 }
@@ -158,7 +158,7 @@ fn closing(words: &[&[u8]]) -> Result<Act, LineError>
     Ok(Act::Close { now })
 }
 
-/// Reads what the agent does in a line with the verb `verb`.
+/// Reads the act of the agent in a line with the verb `verb`.
 #[tactic(auto, unfolding(crate::specs::Line::delivery_of))]
 fn act(alloc: Global, verb: Verb, words: &[&[u8]]) -> Result<Act, LineError>
     requires { length words.now ≡ count_of verb }
@@ -238,8 +238,8 @@ fn filters(alloc: Global, text: &[u8]) -> Result<BytesList, LineError>
     }
 }
 
-/// Reads how a query is fired. `words` are the first eight words of its line, and `rest` has its filters. No line can
-/// set an address, a port or a relay factor, or say that tag filters pass.
+/// Reads the parameters with which a query is fired. `words` are the first eight words of its line, and `rest` has the
+/// query's filters. No line can set an address, a port or a relay factor, and no line can state that tag filters pass.
 #[tactic(auto, unfolding(crate::specs::Line::params_of))]
 fn params(alloc: Global, words: &[&[u8]], rest: &[u8]) -> Result<QueryParams, LineError>
     requires { length words.now ≡ 8 }

@@ -1,4 +1,4 @@
-//! Two kinds of words: MODE in an agent's line, and the names of sink calls, which `break` lines contain.
+//! Reads and writes two kinds of words: the word MODE of an agent's line, and the names of sink calls in `break` lines.
 
 ghost use Rattle.std.specs.Prelude.{◌≡◌, map};
 ghost use Rattle.serf_text.specs.Gives.{Gives};
@@ -10,7 +10,7 @@ use serf_agent::Config;
 use serf_model::SinkCall;
 use serf_text::{Cause, LineError, is_word, word_at};
 
-/// What the word MODE of an agent's line says. The word is `ignore` or `keep`, with or without `+events` after it.
+/// The meaning of the word MODE in an agent's line. The word is `ignore` or `keep`, with or without `+events` after it.
 #[derive(Clone, Copy)]
 pub struct Mode {
     /// Whether the agent ignores old events at a join.
@@ -53,8 +53,8 @@ pub(crate) fn mode_at(words: &[&[u8]], place: usize) -> Result<Mode, LineError>
     }
 }
 
-/// Returns the word MODE for `config`. It says whether the agent ignores old events at a join, and whether it keeps its
-/// events across restarts.
+/// Returns the word MODE for `config`. This word states whether the agent ignores old events at a join, and whether it
+/// keeps its events across restarts.
 pub(crate) fn mode_word(config: &Config) -> &'static [u8]
     ensures { result.now ≡ mode_word config.now }
 {

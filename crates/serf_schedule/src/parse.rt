@@ -1,6 +1,6 @@
 //! Reads schedules, line by line or as a whole. `agents` holds the agents of the earlier lines. A line is late
 //! (`is_late`) if an earlier line has an action. A late line can't add an agent. In clauses, `before` is the schedule
-//! of the earlier lines, and `following ..` is this schedule together with what the line adds.
+//! of the earlier lines, and `following ..` is this schedule after the agent or the action of the line was added.
 
 ghost use Rattle.std.specs.Prelude.{None, true, ◌≡◌, ◌<◌, ◌≤◌, ◌==◌, ◌++◌, slice_index, length, map, All, IfOk, Ok, Err};
 ghost use Rattle.serf_model.specs.Runs.{AreConfigs};
@@ -18,7 +18,7 @@ use crate::command::{Command, command_in};
 use crate::line::{action, agent, injection, query};
 use crate::schedule::Schedule;
 use serf_model::Action;
-use serf_text::{Cause, InputError, LineError, cut_words, split_once, take_words};
+use serf_text::{Cause, InputError, LineError, split_once, split_words, split_words_into};
 use serf_world::{Roster, RosterError};
 use std::alloc::Global;
 use thiserror::Error;
@@ -26,7 +26,7 @@ use thiserror::Error;
 /// Why a text is not a valid schedule.
 #[derive(Clone, Copy, Debug, Drop, Error, PartialEq, Eq)]
 pub enum ScheduleError {
-    /// The first line that isn't valid, counted from 1, and what is wrong with it.
+    /// The number of the first line that isn't valid, counted from 1, and the cause.
     #[error("line {line} of the schedule is bad: {cause}")]
     BadLine { line: u64, cause: Cause },
     /// Memory ran out.
@@ -43,13 +43,13 @@ pub enum ReplayError {
     /// There are more than 16,777,216 bytes to read. Nothing was written.
     #[error("the schedule is too long")]
     ReadTooLong,
-    /// The first line that isn't valid, counted from 1, and what is wrong with it. Nothing was written.
+    /// The number of the first line that isn't valid, counted from 1, and the cause. Nothing was written.
     #[error("line {line} of the schedule is bad: {cause}")]
     BadLine { line: u64, cause: Cause },
     /// Memory ran out. Nothing was written.
     #[error("out of memory")]
     OutOfMemory,
-    /// A write failed, or accepted no byte. What was written is a prefix of the trace's text.
+    /// A write failed, or accepted no byte. The bytes that were written are a prefix of the trace's text.
     #[error("a write failed")]
     WriteError,
 }
@@ -94,15 +94,16 @@ pub fn error_at(line: u64, error: LineError) -> ScheduleError
     }
 }
 
-/// Whether an agent's line may have `count` words. The line may omit both limits on packets, or these and PERTIME.
+/// Whether an agent's line may have `count` words. The line may omit the two limits on packets, or these limits and
+/// PERTIME.
 fn is_agent_count(count: usize) -> bool
     ensures { result ≡ is_agent_count count }
 {
     count == 7 || count == 8 || count == 10
 }
 
-/// Returns all words of an agent's line: its first words, at most eight, are `words`, and `rest` is the remainder of
-/// the line. Returns `WordCount` if an agent's line can't have this number of words.
+/// Returns all words of an agent's line. `words` are its first words, at most eight, and `rest` is the remainder of the
+/// line. Returns `WordCount` if an agent's line can't have this number of words.
 fn agent_words<'a>(
     alloc: Global,
     words: &[&'a [u8]],
@@ -114,7 +115,7 @@ fn agent_words<'a>(
 {
     let mut all = Vec::from_slice(alloc, words)?;
     let mut more = Vec::new(alloc);
-    let left = take_words(rest, &mut more)?; // what follows the first eight words in `rest`
+    let left = split_words_into(rest, &mut more)?; // the part of `rest` after its first eight words
     all.append(&mut more)?;
     if left.is_empty() && is_agent_count(all.len()) {
         Ok(all)
@@ -152,8 +153,9 @@ fn read_agent(
     }
 }
 
-/// Reads a line that has at least one word: returns its action, or adds its agent to `agents` and returns `None`.
-/// `words` are the first words of the line, at most eight, and `rest` is the remainder of the line.
+/// Reads a line that has at least one word, and returns its action. If the line has an agent, the function adds this
+/// agent to `agents` and returns `None`. `words` are the first words of the line, at most eight, and `rest` is the
+/// remainder of the line.
 fn read_words(
     alloc: Global,
     agents: &mut Roster,
@@ -210,7 +212,7 @@ pub(crate) fn say_line(
     if let [b'#', ..] = line {
         return Ok(None);
     }
-    let (first, count, rest) = cut_words(line); // at most eight words, their number, and the remainder
+    let (first, count, rest) = split_words(line); // at most eight words, their number, and the remainder
     if count == 0 {
         return Ok(None);
     }
@@ -246,8 +248,8 @@ pub fn read_schedule_line(
 /// Returns the schedule that `text` stands for, or its first bad line.
 ///
 /// The text is split at newlines, and the last line needs no newline. Words are separated by spaces. Lines without
-/// words are skipped, and so are lines whose first byte is `#`. The lines of the agents are before those of the
-/// actions.
+/// words are skipped, and so are lines whose first byte is `#`. The lines of the agents have to be before the lines of
+/// the actions.
 ///
 /// The result is `BadLine` exactly if a line isn't valid, and it names the first of these lines. But if memory runs out
 /// first, the result is `OutOfMemory`.

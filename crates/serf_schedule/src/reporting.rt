@@ -1,4 +1,4 @@
-//! The whole job of a teller: reads a schedule to its end, runs it, and then writes the teller's text about the run.
+//! Reads a whole schedule, runs it, and then writes a reporter's text about the run.
 
 ghost use Rattle.std.specs.Prelude.{◌≡◌, ◌<◌, ◌≤◌, ◌+◌, [], List, ℕ, Err, length, IfOk, IfErr, IfSome, IsErrOf};
 ghost use Rattle.std.specs.Io.KnownBytes.{Appends, Consumes};
@@ -14,7 +14,8 @@ use serf_world::Turns;
 use std::alloc::Global;
 use std::io::{Read, Write};
 
-/// Returns the text of `reporter` about the run of the schedule in `input`, and the number of its actions.
+/// Runs the schedule in `input`. Returns the text of `reporter` about the run, and the number of the schedule's
+/// actions.
 fn run_text<T: Turns + Drop, V: Watch>(
     alloc: Global,
     input: Vec<u8>,
@@ -48,11 +49,12 @@ fn run_text<T: Turns + Drop, V: Watch>(
 /// Reads a schedule to its end, runs it, and writes the text of `reporter` about the run. Returns the number of actions
 /// in the schedule. `watch` is called after each action of the run.
 ///
-/// At most 16,777,217 bytes are read, and nothing is written before the whole schedule is read, parsed and run.
+/// The function reads at most 16,777,217 bytes. It writes nothing before it has read, parsed and run the whole
+/// schedule.
 ///
-/// The result is `ReadTooLong` only if there are more than 16,777,216 bytes, and `BadLine` only if a line isn't valid: it
-/// names the first of these lines. After `WriteError`, a prefix of the text was written. After any other error nothing
-/// was written.
+/// The result is `ReadTooLong` only if there are more than 16,777,216 bytes. It is `BadLine` only if a line isn't
+/// valid, and it names the first of these lines. After `WriteError`, a prefix of the text was written. After any other
+/// error, nothing was written.
 pub fn report_input<R: Read, W: Write, T: Turns + Drop, V: Watch>(
     alloc: Global,
     reader: &mut R,
@@ -60,7 +62,7 @@ pub fn report_input<R: Read, W: Write, T: Turns + Drop, V: Watch>(
     reporter: T,
     watch: &mut V,
 ) -> Result<u64, ReplayError>
-    // Exactly the text about the run of the input's schedule was written.
+    // After a success, exactly the text about the run of the input's schedule was written.
     ensures done { (options : T.Options)
         → ((configs : List Config) → T.told options reporter configs [] [])
         → IfOk result (λ count. IfSome (R.remaining reader.old) (λ input. (text : List ℕ)
@@ -80,7 +82,7 @@ pub fn report_input<R: Read, W: Write, T: Turns + Drop, V: Watch>(
         × AppendsFront (W.contents writer.old) (W.contents writer.new) text) }
     ensures nothing { IfErr result (λ error. (error ≡ ReplayError.WriteError → ⊥)
         → writer.new ≡ writer.old) }
-    // It reads at most one byte more than the longest allowed schedule has.
+    // The function reads at most one byte more than the longest allowed schedule has.
     ensures bounded { (bytes : List ℕ)
         × Consumes (R.remaining reader.old) (R.remaining reader.new) bytes
         × (length bytes ≤ MAX_SCHEDULE_BYTES + 1) }

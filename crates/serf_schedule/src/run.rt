@@ -1,6 +1,6 @@
-//! Runs schedules: each line as soon as it is read, or a whole schedule. A teller ([`Turns`]) writes a text about each
-//! action that is done, and a watch can follow the progress of the run. In clauses, `options` are the teller's options,
-//! `said` is what the lines of the schedule said, and `front` is the text that was written before `text`.
+//! Runs schedules: each line as soon as it is read, or a whole schedule. A reporter ([`Turns`]) writes a text about
+//! each action, and a watch can follow the progress of the run. In clauses, `options` are the reporter's options,
+//! `said` is the schedule of the lines so far, and `front` is the text that was written before `text`.
 
 ghost use Rattle.std.specs.Prelude.{◌≡◌, ◌++◌, ◌∷◌, [], List, ℕ, IfErr, IfOk, OnOk, length};
 ghost use Rattle.serf_agent.specs.declared.config.Config.{Config};
@@ -24,8 +24,8 @@ pub(crate) struct Acting {
     pub(crate) turns: u64,
 }
 
-/// Creates the cluster of the agents in `roster`, and does its first action, `action`. The text that `reporter` writes
-/// about it is appended to `text`.
+/// Creates the cluster of the agents in `roster`, and does its first action, `action`. Appends the reporter's text
+/// about this action to `text`.
 fn begin<T: Turns>(
     alloc: Global,
     roster: Roster,
@@ -51,9 +51,9 @@ fn begin<T: Turns>(
     })
 }
 
-/// Does `action`. The first action also creates the cluster, `acting`, of the agents in `agents`. The text that
-/// `reporter` writes about the action is appended to `text`. Returns `AllocError` if memory runs out, or if 2^64 - 1
-/// actions were done already.
+/// Does `action`. If it is the first action, the function also creates the cluster `acting` from the agents in
+/// `agents`. The function appends the reporter's text about the action to `text`. Returns `AllocError` if memory runs
+/// out, or if 2^64 - 1 actions were done already.
 fn do_action<T: Turns>(
     alloc: Global,
     agents: &mut Roster,
@@ -85,18 +85,18 @@ fn do_action<T: Turns>(
     }
 }
 
-/// The run of a schedule whose lines are done one by one, each as soon as it is read. It keeps the cluster with all
-/// packets that were sent, and the teller with whatever the teller keeps.
+/// The run of a schedule whose lines are done one by one, each as soon as it is read. The run keeps the cluster with
+/// all packets that were sent, and the reporter with its own state.
 pub struct Run<T> {
     /// The agents, until the first action.
     pub(crate) agents: Roster,
     /// The cluster, from the first action on.
     pub(crate) acting: Option<Acting>,
-    /// The teller, which writes a text about each action.
+    /// The reporter, which writes a text about each action.
     pub reporter: T,
 }
 
-/// Written out so that the crates above don't have to prove again that each part can be dropped.
+/// This code is written out so that the crates above don't have to prove again that each part can be dropped.
 impl<T: Drop> Drop for Run<T> {
     fn drop(self) {
         let Run {
@@ -108,7 +108,7 @@ impl<T: Drop> Drop for Run<T> {
 }
 
 impl<T: Turns> Run<T> {
-    /// Creates a run, before the first line of its schedule. Allocates no memory.
+    /// Creates a run that has not read a line of its schedule yet. Allocates no memory.
     pub fn new(alloc: Global, reporter: T) -> Run<T>
         ensures { (options : T.Options)
             → ((configs : List Config) → T.told options reporter configs [] [])
@@ -143,8 +143,8 @@ impl<T: Turns> Run<T> {
         }
     }
 
-    /// Runs `line`, the next line of the schedule. If the line has an action, the teller's text about this action is
-    /// appended to `text`.
+    /// Runs `line`, the next line of the schedule. If the line has an action, the function appends the reporter's text
+    /// about this action to `text`.
     ///
     /// Returns `Bad` if the line isn't valid, and `OutOfMemory` if memory runs out. After either error, the run no
     /// longer stands for a schedule.
@@ -172,7 +172,7 @@ impl<T: Turns> Run<T> {
         }
     }
 
-    /// Runs `line`, the next line, and appends the teller's text about it to `text`, which may already have the text
+    /// Runs `line`, the next line, and appends the reporter's text about it to `text`. `text` may already have the text
     /// about earlier lines.
     fn do_line(&mut self, alloc: Global, line: &[u8], text: &mut Vec<u8>) -> Result<(), LineError>
         ensures done { (options : T.Options) (lines : List (List ℕ)) (front : List ℕ)
@@ -252,7 +252,7 @@ pub fn report_schedule<T: Turns>(
 
 /// A watch follows the progress of a run: it is called after each action. It can't change the run.
 pub trait Watch {
-    /// Whether the watch uses what [`Watch::acted`] passes to it. If it doesn't, `all` may be 0 there.
+    /// Whether the watch uses the numbers that [`Watch::acted`] reports. If it doesn't, the caller may pass 0 as `all`.
     fn is_watching(&self) -> bool;
 
     /// Reports to the watch that `done` of the run's `all` actions are done.
@@ -271,7 +271,7 @@ impl Watch for Unwatched {
     fn acted(&mut self, _done: u64, _all: u64) {}
 }
 
-/// A teller that writes the text of `reporter`, and reports each turn to `watch`.
+/// A reporter that writes the same text as `reporter`, and also reports each turn to `watch`.
 #[derive(Drop)]
 pub struct Watched<'a, T, W> {
     pub reporter: T,

@@ -1,5 +1,5 @@
-//! What the lines of a schedule can express. Each `know_..` does nothing: a call of it states for the prover what
-//! follows from a type.
+//! Decides whether a line of a schedule can express an action. The functions `know_..` do nothing. A call of one of
+//! them states for the prover a fact that follows from a type.
 
 ghost use Rattle.std.specs.Prelude.{◌↔◌, ◌<◌, ◌^◌, All, IsTrue};
 ghost use Rattle.hex.specs.Hex.{IsBytes};
@@ -110,8 +110,8 @@ fn is_act_sayable(act: &Act) -> bool
 }
 
 /// Whether a line of a schedule can express `action`. No line can have 0 as the number of the sink call that fails, or
-/// a negative timeout. No line can say that tag filters pass, or to which address the answers to a query go. Allocates
-/// no memory.
+/// a negative timeout. No line can state that tag filters pass, or to which address the answers to a query are sent.
+/// Allocates no memory.
 pub fn is_sayable(action: &Action) -> bool
     ensures { IsTrue result ↔ IsSayable action.now }
 {

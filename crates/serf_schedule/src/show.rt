@@ -1,4 +1,4 @@
-//! Writes the text of a trace: for each action its lines, which begin with the number of the action.
+//! Writes the text of a trace. Each action has at least one line, and its lines begin with the number of the action.
 
 ghost use Rattle.std.specs.Prelude.{◌≡◌, ◌+◌, ◌++◌, OnOk, IfOk, codes, decimal};
 ghost use Rattle.std.specs.List.{flat_map};
@@ -123,7 +123,7 @@ fn write_clocks(
     write_after_space(out, query_clock)
 }
 
-/// Appends a space and the error of a packet if `refusal` has one. Otherwise, it appends nothing.
+/// Appends a space and the error of a packet if `refusal` has one. Otherwise, the function appends nothing.
 fn write_error_details(out: &mut Vec<u8>, refusal: Refusal) -> Result<(), AllocError>
     ensures { OnOk result (out.new.items ≡ out.old.items ++ error_details refusal) }
 {
@@ -157,7 +157,7 @@ pub fn write_answer(out: &mut Vec<u8>, answer: Answer) -> Result<(), AllocError>
     }
 }
 
-/// The number of an action, counted from 1, and its decimal digits, with which all lines of the action begin.
+/// The number of an action, counted from 1, and its decimal digits. All lines of the action begin with these digits.
 #[derive(Clone, Copy)]
 struct Spelled<'a> {
     number: u64,
@@ -227,8 +227,8 @@ fn write_event_line(out: &mut Vec<u8>, action: Spelled, event: &EventLine) -> Re
     out.extend_from_slice(if event.coalesce { b" 1\n" } else { b" 0\n" })
 }
 
-/// Appends the agent that handed out `query`, the number of the query at this agent, its time and its ID, each with a
-/// space after it.
+/// Appends the words that identify `query`: the agent that handed it out, its number at this agent, its time and its
+/// ID. Each word is followed by a space.
 #[tactic(auto, unfolding(crate::specs::Show::identity_text))]
 fn write_identity(out: &mut Vec<u8>, query: &QueryLine) -> Result<(), AllocError>
     ensures { OnOk result (out.new.items ≡ out.old.items ++ identity_text query.now) }
@@ -336,7 +336,7 @@ pub fn show_trace(alloc: Global, trace: &Trace) -> Result<Vec<u8>, AllocError>
     Ok(out)
 }
 
-/// A teller whose text is the trace of the run.
+/// A reporter whose text is the trace of the run.
 #[derive(Drop)]
 pub struct TraceText;
 

@@ -65,7 +65,7 @@ pub fn write_agent_line(out: &mut Vec<u8>, config: &Config) -> Result<(), AllocE
     out.extend_from_slice(b"\n")
 }
 
-/// Returns the word for packet number `packet`: its bytes if `given` has them, and its number otherwise.
+/// Returns the word for packet number `packet`: the packet's bytes if `given` has them, and its number otherwise.
 fn packet_word<'a>(given: Option<&'a [u8]>, packet: u64) -> Word<'a>
     ensures { word_text result ≡ packet_word (option_copied given.entry) packet }
 {
@@ -96,7 +96,7 @@ fn write_query_words(out: &mut Vec<u8>, query: &NewQuery) -> Result<(), AllocErr
 /// receives is written as its bytes if `given` has them, and as its number otherwise. If memory runs out, `out` may
 /// have a part of the words.
 ///
-/// The words of a query don't say whether tag filters pass or to which address answers go
+/// The words of a query don't state whether tag filters pass, or to which address the answers are sent
 /// ([`crate::is_sayable`]).
 pub fn write_act_words(out: &mut Vec<u8>, act: &Act, given: Option<&[u8]>) -> Result<(), AllocError>
     ensures { OnOk result (out.new.items ≡ out.old.items
@@ -145,8 +145,8 @@ pub fn write_act_words(out: &mut Vec<u8>, act: &Act, given: Option<&[u8]>) -> Re
 
 /// Appends the line of `action`. If memory runs out, `out` may have a part of the line.
 ///
-/// The line of a query doesn't say whether tag filters pass or to which address answers go, because no line can say
-/// this ([`crate::is_sayable`]).
+/// The line of a query doesn't state whether tag filters pass, or to which address the answers are sent, because no
+/// line can express this ([`crate::is_sayable`]).
 #[tactic(auto, unfolding(crate::specs::ScheduleText::action_text))]
 pub fn write_action_line(out: &mut Vec<u8>, action: &Action) -> Result<(), AllocError>
     ensures { OnOk result (out.new.items ≡ out.old.items ++ action_text action.now) }
@@ -198,7 +198,7 @@ pub fn know_read_back(schedule: &Schedule)
         → schedule_of (schedule_text (parsed_of schedule.now)) ≡ Ok (parsed_of schedule.now) }
 {
     text_reads_back(); // for the prover: states the law
-    have_byte_names(schedule.agents.as_slice()); // and what the law requires of the agents' names
+    have_byte_names(schedule.agents.as_slice()); // for the prover: the law requires that names are bytes
 }
 
 /// Appends the text of `schedule`: a line for each agent, and then one for each action.

@@ -37,7 +37,7 @@ fn write_word(out: &mut Vec<u8>, word: Word) -> Result<(), AllocError>
     }
 }
 
-/// Appends `words`, with a space before each.
+/// Appends `words`, with a space before each word.
 pub(crate) fn write_words(out: &mut Vec<u8>, words: &[Word]) -> Result<(), AllocError>
     ensures { OnOk result (out.new.items ≡ out.old.items ++ spaced (map word_text words.now)) }
 {
@@ -47,7 +47,7 @@ pub(crate) fn write_words(out: &mut Vec<u8>, words: &[Word]) -> Result<(), Alloc
     Ok(())
 }
 
-/// Appends a line: `command`, and then `words` with a space before each.
+/// Appends a line: `command`, and then `words` with a space before each word.
 pub fn write_line(out: &mut Vec<u8>, command: &[u8], words: &[Word]) -> Result<(), AllocError>
     ensures { OnOk result (out.new.items ≡ out.old.items
         ++ line_text (command.now ∷ map word_text words.now)) }
@@ -57,7 +57,7 @@ pub fn write_line(out: &mut Vec<u8>, command: &[u8], words: &[Word]) -> Result<(
     out.extend_from_slice(b"\n")
 }
 
-/// Appends byte lists in hex, one word for each of `lists`, with a space before each word.
+/// Appends each of `lists` as a word in hex, with a space before it.
 pub(crate) fn write_hex_words(out: &mut Vec<u8>, lists: &[Bytes]) -> Result<(), AllocError>
     ensures { OnOk result (out.new.items ≡ out.old.items ++ spaced (map hex_text lists.now)) }
 {
@@ -86,7 +86,8 @@ pub(crate) fn sink_call(call: SinkCall) -> &'static [u8]
     }
 }
 
-/// Returns the flags of a query as its line has them: 1 requests acks, 2 means no broadcast, and 3 means both.
+/// Returns the number that stands for a query's flags in its line: 1 requests acks, 2 means no broadcast, and 3 means
+/// both.
 pub(crate) fn flags(params: &QueryParams) -> u64
     ensures { result ≡ flags_of params.now }
 {

@@ -11,14 +11,15 @@ use itoa::Buffer;
 use smallvec::SmallVec;
 use std::alloc::{AllocError, Global};
 
-/// The bytes of one or more lines. They need no block of memory if they are no longer than a clock line.
+/// The bytes of one or more lines. Up to 40 bytes, enough for a clock line, are stored without an allocation.
 pub(crate) type LineBytes = SmallVec<u8, 40>;
 
 /// The length of the longest clock line in bytes: a prefix of 13, a zero, 20 digits and a newline.
 pub(crate) const LONGEST_LINE: usize = 35;
 
-/// Appends the clock line of `kind` and `time` to `text`. If `kept` is true, the text also has lines of kept events, of
-/// queries or of minimums, and the number has a zero in front. If memory runs out, `text` may have a part of the line.
+/// Appends the clock line of `kind` and `time` to `text`. If `kept` is true, the text also has lines of kept events,
+/// of queries or of minimums, and the number gets a leading zero. If memory runs out, `text` may end in a part of the
+/// line.
 pub(crate) fn write_line(
     text: &mut LineBytes,
     kept: bool,
@@ -36,8 +37,8 @@ pub(crate) fn write_line(
     text.extend_from_slice(b"\n")
 }
 
-/// The bytes that are appended for `time` if the last line of its kind is `last`: the clock line if `time` is above
-/// `last`, and then `own`.
+/// Returns the bytes to append for `time`, if the last line of its kind has the time `last`. These are the clock line
+/// of `time`, if `time` is above `last`, and then `own`.
 pub(crate) fn bytes_of(
     alloc: Global,
     kind: ClockKind,
@@ -70,7 +71,7 @@ fn write_above_zero(
     write_line(text, kept, kind, time)
 }
 
-/// The text of a compaction: `lines`, and after them the clock lines of `last`.
+/// Returns the text of a compaction: `lines`, followed by the clock lines of `last`.
 pub(crate) fn text_of(alloc: Global, lines: &[u8], last: Clocks) -> Result<LineBytes, AllocError>
     ensures { IfOk result (λ text. text.items
         ≡ compaction_bytes lines.now last.member_clock last.event_clock last.query_clock) }

@@ -7,7 +7,7 @@ ghost use Rattle.serf_snapshot.specs.declared.kind.ClockKind.TheVariants.{Member
 
 use crate::kind::ClockKind;
 
-/// A value for each kind of clock line, 0 if there is no line of the kind.
+/// The values of the three clocks. A clock has the value 0 if there is no line of its kind.
 #[derive(Clone, Copy, Debug, PartialEq, Eq)]
 pub struct Clocks {
     /// The value of the member clock.
@@ -18,7 +18,7 @@ pub struct Clocks {
     pub query_clock: u64,
 }
 
-/// Whether all bytes of `text` are decimal digits.
+/// Returns whether all bytes of `text` are decimal digits.
 pub(crate) fn is_all_digits(text: &[u8]) -> bool
     ensures { result ≡ all_ascii_digits text.now }
 {
@@ -30,7 +30,8 @@ pub(crate) fn is_all_digits(text: &[u8]) -> bool
     true
 }
 
-/// The number that `digits` write, or 2^64 - 1 if it is larger. The digit 0 is the byte 48.
+/// Returns the number that `digits` spell in decimal, or 2^64 - 1 if this number is larger. The digit 0 is the byte
+/// 48.
 pub(crate) fn number_of(digits: &[u8]) -> u64
     ensures { result ≡ min (read_on 0 digits.now) (2 ^ 64 - 1) }
 {
@@ -43,7 +44,7 @@ pub(crate) fn number_of(digits: &[u8]) -> u64
     n
 }
 
-/// The time that the digits of a clock line write, or 0 if they don't write a time.
+/// Returns the time that the digits of a clock line spell, or 0 if they don't spell a time.
 pub(crate) fn time_of(digits: &[u8]) -> u64
     ensures { result ≡ time_text_value (Some digits.now) }
 {
@@ -54,7 +55,8 @@ pub(crate) fn time_of(digits: &[u8]) -> u64
     if n == u64::MAX { 0 } else { n }
 }
 
-/// The time of the clock line `line`, or 0 if it doesn't begin with `prefix` or if no time follows.
+/// Returns the time in the clock line `line`, or 0 if the line doesn't begin with `prefix` or if no time follows the
+/// prefix.
 fn time_after(prefix: &[u8], line: &[u8]) -> u64
     ensures { result ≡ time_text_value (following prefix.now line.now) }
 {
@@ -65,7 +67,7 @@ fn time_after(prefix: &[u8], line: &[u8]) -> u64
 }
 
 impl Clocks {
-    /// The clocks after one more line. The line may raise a clock, and never lowers one.
+    /// Returns these clocks, updated by one more line. The line may raise a clock, but never lowers one.
     pub(crate) fn after_line(self, line: &[u8]) -> Clocks
         ensures member { result.member_clock ≡ max self.member_clock (line_value Member line.now) }
         ensures event { result.event_clock ≡ max self.event_clock (line_value Event line.now) }
@@ -85,7 +87,7 @@ impl Clocks {
     }
 }
 
-/// Whether `text` is empty or ends in a newline, so that its last line isn't torn.
+/// Returns whether `text` is empty or ends in a newline, so that its last line isn't torn.
 pub(crate) fn ends_whole(text: &[u8]) -> bool
     ensures { result ≡ is_whole text.now }
 {
@@ -96,7 +98,7 @@ pub(crate) fn ends_whole(text: &[u8]) -> bool
 }
 
 impl Clocks {
-    /// The value of the clock `kind`.
+    /// Returns the value of the clock of this `kind`.
     pub(crate) fn of(self, kind: ClockKind) -> u64
         ensures { result ≡ of_kind kind self.member_clock self.event_clock self.query_clock }
     {
@@ -107,7 +109,7 @@ impl Clocks {
         }
     }
 
-    /// These clocks, with `time` as the value of the clock `kind`.
+    /// Returns these clocks with the clock of this `kind` set to `time`.
     pub(crate) fn with(self, kind: ClockKind, time: u64) -> Clocks
         ensures member { result.member_clock ≡ once_set Member kind time self.member_clock }
         ensures event { result.event_clock ≡ once_set Event kind time self.event_clock }

@@ -1,4 +1,4 @@
-//! Writes the lines of an agent that keeps its events. Each call appends one line to `text`.
+//! Writes the lines of an agent that keeps its events. Each public function appends one line to `text`.
 
 ghost use Rattle.std.specs.Prelude.{◌≡◌, ◌+◌, ◌*◌, ◌++◌, ◌∷◌, OnOk, decimal, take, vec_len};
 ghost use Rattle.hex.specs.Hex.{encode_lower};
@@ -18,7 +18,7 @@ pub(crate) fn write_number(text: &mut Vec<u8>, n: u64) -> Result<(), AllocError>
     text.extend_from_slice(buffer.format(n).as_bytes())
 }
 
-/// Appends two zero bytes for each of `bytes` bytes, to be overwritten with their hex digits.
+/// Appends two zero bytes for each of `bytes` bytes. The caller then overwrites the zero bytes with hex digits.
 fn grow(text: &mut Vec<u8>, bytes: usize) -> Result<(), AllocError>
     ensures front { OnOk result (take (vec_len text.old) text.new.items ≡ text.old.items) }
     ensures len { OnOk result (vec_len text.new ≡ vec_len text.old + 2 * bytes) }
@@ -39,7 +39,7 @@ fn write_hex(text: &mut Vec<u8>, bytes: &[u8]) -> Result<(), AllocError>
     }
 }
 
-/// Appends a space, and `bytes` in hex.
+/// Appends a space, and then `bytes` in hex.
 pub(crate) fn write_hex_part(text: &mut Vec<u8>, bytes: &[u8]) -> Result<(), AllocError>
     ensures { OnOk result (text.new.items ≡ text.old.items ++ 32 ∷ encode_lower bytes.now) }
 {
@@ -47,9 +47,9 @@ pub(crate) fn write_hex_part(text: &mut Vec<u8>, bytes: &[u8]) -> Result<(), All
     write_hex(text, bytes)
 }
 
-/// Appends the line of an event: `#event`, its time, and its name and its payload in hex, with single spaces between
-/// them. The line has at most 30 bytes in addition to two for each byte of name and payload. After an `AllocError`,
-/// which means that memory ran out, `text` may have a prefix of the line.
+/// Appends the line of an event: `#event`, the event's time, and its name and its payload in hex, with single spaces
+/// between them. The line has two bytes for each byte of the name and the payload, and at most 30 more. If memory
+/// runs out, the call returns an `AllocError`, and `text` may then end in a part of the line.
 pub fn write_event_line(
     text: &mut Vec<u8>,
     time: Time,
@@ -66,8 +66,8 @@ pub fn write_event_line(
     text.extend_from_slice(b"\n")
 }
 
-/// Appends the line of a query: `#query`, its time and its ID, with single spaces between them; at most 39 bytes. After
-/// an `AllocError`, which means that memory ran out, `text` may have a prefix of the line.
+/// Appends the line of a query, which has at most 39 bytes: `#query`, the query's time and its ID, with single spaces
+/// between them. If memory runs out, the call returns an `AllocError`, and `text` may then end in a part of the line.
 pub fn write_query_line(text: &mut Vec<u8>, time: Time, id: u32) -> Result<(), AllocError>
     ensures { OnOk result (text.new.items ≡ text.old.items ++ query_line time id) }
 {
@@ -78,7 +78,7 @@ pub fn write_query_line(text: &mut Vec<u8>, time: Time, id: u32) -> Result<(), A
     text.extend_from_slice(b"\n")
 }
 
-/// The beginning of a `#least` line of `kind`.
+/// Returns the beginning of a `#least` line of this `kind`.
 pub(crate) fn min_prefix_of(kind: ClockKind) -> &'static [u8]
     ensures { result.now ≡ min_prefix kind }
 {
@@ -89,8 +89,8 @@ pub(crate) fn min_prefix_of(kind: ClockKind) -> &'static [u8]
     }
 }
 
-/// Appends the line of a minimum: `#least`, a space and a clock line; at most 41 bytes. After an `AllocError`, which
-/// means that memory ran out, `text` may have a prefix of the line.
+/// Appends the line of a minimum time, which has at most 41 bytes: `#least`, a space and a clock line. If memory runs
+/// out, the call returns an `AllocError`, and `text` may then end in a part of the line.
 pub fn write_min_line(text: &mut Vec<u8>, kind: ClockKind, time: u64) -> Result<(), AllocError>
     ensures { OnOk result (text.new.items ≡ text.old.items ++ min_line kind time) }
 {
@@ -99,8 +99,9 @@ pub fn write_min_line(text: &mut Vec<u8>, kind: ClockKind, time: u64) -> Result<
     text.extend_from_slice(b"\n")
 }
 
-/// Appends the clock line of a time whose events or queries have their own lines: its number has one zero in front; at
-/// most 35 bytes. After an `AllocError`, which means that memory ran out, `text` may have a prefix of the line.
+/// Appends the clock line of a time whose events or queries have their own lines. Its number has one leading zero,
+/// and the line has at most 35 bytes. If memory runs out, the call returns an `AllocError`, and `text` may then end
+/// in a part of the line.
 pub fn write_kept_clock_line(
     text: &mut Vec<u8>,
     kind: ClockKind,

@@ -1,4 +1,4 @@
-//! The lines about handlers: which events of a text are open, and which of these have begun.
+//! The lines about handlers record which events of a text are open, and for which of them the handler has begun.
 
 ghost use Rattle.std.specs.Prelude.{◌≡◌, ◌++◌, [], false, true, IfOk, MatchOption, OnOk, not, nat_lt};
 ghost use Rattle.serf_snapshot.specs.Clocks.{lines_of};
@@ -20,7 +20,7 @@ pub struct OpenEvent {
     pub has_begun: bool,
 }
 
-/// What one line says of handlers.
+/// What a line says about handlers.
 #[derive(Debug, Drop)]
 pub(crate) enum HandlerLine {
     /// The event was handed out, or is still open.
@@ -29,15 +29,16 @@ pub(crate) enum HandlerLine {
     Begun(KeptEvent),
     /// The event is done.
     Done(KeptEvent),
-    /// All events of the lines above are done, up to this time.
+    /// All events of earlier lines are done, up to this time.
     DoneUpTo(u64),
 }
 
-/// Appends the line that says that an event is open: `#open`, the event's time, and its name and its payload in hex, with
-/// single spaces between them. A program that compacts a snapshot writes it for each open event, and after it the line of
-/// [`write_begun_line`] if the event's handler has begun. [`read_open_events`] reads it as it reads the event's own line,
-/// but [`read_kept`](crate::read_kept) skips it, so an agent doesn't retain the event because of it. After an
-/// `AllocError`, which means that memory ran out, `text` may have a prefix of the line.
+/// Appends the line that marks an event as open: `#open`, the event's time, and its name and its payload in hex, with
+/// single spaces between them. A program that compacts a snapshot writes this line for each open event. If the
+/// event's handler has begun, the program then also writes the line of [`write_begun_line`]. [`read_open_events`]
+/// reads an `#open` line in the same way as the event's own line. But [`read_kept`](crate::read_kept) skips it, so an
+/// agent doesn't retain an event because of its `#open` line. If memory runs out, the call returns an `AllocError`,
+/// and `text` may then end in a part of the line.
 pub fn write_open_line(
     text: &mut Vec<u8>,
     time: Time,
@@ -54,9 +55,9 @@ pub fn write_open_line(
     text.extend_from_slice(b"\n")
 }
 
-/// Appends the line that says that an event's handler has begun: `#begun`, the event's time, and its name and its
-/// payload in hex, with single spaces between them. Flush this line before the handler starts. After an `AllocError`,
-/// which means that memory ran out, `text` may have a prefix of the line.
+/// Appends the line that records that an event's handler has begun: `#begun`, the event's time, and its name and its
+/// payload in hex, with single spaces between them. Flush this line before the handler starts. If memory runs out,
+/// the call returns an `AllocError`, and `text` may then end in a part of the line.
 pub fn write_begun_line(
     text: &mut Vec<u8>,
     time: Time,
@@ -73,9 +74,9 @@ pub fn write_begun_line(
     text.extend_from_slice(b"\n")
 }
 
-/// Appends the line that says that an event is done: `#done`, the event's time, and its name and its payload in hex,
-/// with single spaces between them. This line can be flushed together with the next one. After an `AllocError`, which
-/// means that memory ran out, `text` may have a prefix of the line.
+/// Appends the line that records that an event is done: `#done`, the event's time, and its name and its payload in
+/// hex, with single spaces between them. This line can be flushed together with the next one. If memory runs out, the
+/// call returns an `AllocError`, and `text` may then end in a part of the line.
 pub fn write_done_line(
     text: &mut Vec<u8>,
     time: Time,
@@ -92,9 +93,9 @@ pub fn write_done_line(
     text.extend_from_slice(b"\n")
 }
 
-/// Appends the line that says that all events of the lines above are done, up to `time`: `#done`, a space and the time.
-/// The lines above the first line of this form say nothing of handlers. After an `AllocError`, which means that memory
-/// ran out, `lines` may have a prefix of the line.
+/// Appends the line that records that all events of earlier lines are done, up to `time`: `#done`, a space and the
+/// time. Lines before the first line of this form say nothing about handlers. If memory runs out, the call returns an
+/// `AllocError`, and `lines` may then end in a part of the line.
 pub fn write_done_up_to_line(lines: &mut Vec<u8>, time: u64) -> Result<(), AllocError>
     ensures { OnOk result (lines.new.items ≡ lines.old.items ++ done_up_to_line time) }
 {
@@ -103,7 +104,7 @@ pub fn write_done_up_to_line(lines: &mut Vec<u8>, time: u64) -> Result<(), Alloc
     lines.extend_from_slice(b"\n")
 }
 
-/// The event of which `line` says that it is open, or `None` if the line says no such thing.
+/// Returns the event that `line` marks as open, or `None` if `line` isn't an `#open` line.
 fn open_in(alloc: Global, line: &[u8]) -> Result<Option<KeptEvent>, AllocError>
     ensures { IfOk result (λ found. found ≡ open_of_line line.now) }
 {
@@ -113,8 +114,8 @@ fn open_in(alloc: Global, line: &[u8]) -> Result<Option<KeptEvent>, AllocError>
     }
 }
 
-/// The event that `line` hands out: by its own line, or by a line that says that it is open. `None` if the line says no
-/// such thing.
+/// Returns the event that `line` hands out, either as the event's own line or as an `#open` line. Returns `None` for
+/// any other line.
 fn handed_in(alloc: Global, line: &[u8]) -> Result<Option<KeptEvent>, AllocError>
     ensures { IfOk result (λ found. found ≡ handed_of_line line.now) }
 {
@@ -124,7 +125,7 @@ fn handed_in(alloc: Global, line: &[u8]) -> Result<Option<KeptEvent>, AllocError
     }
 }
 
-/// The event of which `line` says that its handler has begun, or `None` if the line says no such thing.
+/// Returns the event whose handler has begun according to `line`, or `None` if `line` says no such thing.
 fn begun_in(alloc: Global, line: &[u8]) -> Result<Option<KeptEvent>, AllocError>
     ensures { IfOk result (λ found. found ≡ begun_of_line line.now) }
 {
@@ -134,7 +135,7 @@ fn begun_in(alloc: Global, line: &[u8]) -> Result<Option<KeptEvent>, AllocError>
     }
 }
 
-/// The event of which `line` says that it is done, or `None` if the line says no such thing.
+/// Returns the event that is done according to `line`, or `None` if `line` says no such thing.
 fn done_in(alloc: Global, line: &[u8]) -> Result<Option<KeptEvent>, AllocError>
     ensures { IfOk result (λ found. found ≡ done_of_line line.now) }
 {
@@ -144,7 +145,8 @@ fn done_in(alloc: Global, line: &[u8]) -> Result<Option<KeptEvent>, AllocError>
     }
 }
 
-/// The time up to which `line` says that all events above it are done, or `None` if the line says no such thing.
+/// Returns the time up to which all earlier events are done according to `line`, or `None` if `line` says no such
+/// thing.
 fn done_up_to_in(line: &[u8]) -> Option<u64>
     ensures { result ≡ done_up_to_of_line line.now }
 {
@@ -158,7 +160,7 @@ fn done_up_to_in(line: &[u8]) -> Option<u64>
     if time == u64::MAX { None } else { Some(time) }
 }
 
-/// What `line` says of handlers, or `None` if it says nothing of them.
+/// Returns what `line` says about handlers, or `None` if it says nothing about them.
 fn handler_line(alloc: Global, line: &[u8]) -> Result<Option<HandlerLine>, AllocError>
     ensures { IfOk result (λ found. found ≡ handler_line line.now) }
 {
@@ -180,21 +182,21 @@ fn handler_line(alloc: Global, line: &[u8]) -> Result<Option<HandlerLine>, Alloc
     }
 }
 
-/// Whether two events are the same: their times, names and payloads are equal.
+/// Returns whether two events are the same: their times, names and payloads are equal.
 fn is_same(a: &KeptEvent, b: &KeptEvent) -> bool
     ensures { result ≡ same_event a.now b.now }
 {
     a.time() == b.time() && a.name() == b.name() && a.payload() == b.payload()
 }
 
-/// Whether `event` is among the open events.
+/// Returns whether `event` is among the open events.
 fn is_open(event: &KeptEvent, events: &[OpenEvent]) -> bool
     ensures { result ≡ is_open event.now events.now }
 {
     events.iter().any(|other| is_same(event, &other.event))
 }
 
-/// Appends an event that was handed out, unless it is open already.
+/// Appends an event that was handed out, unless it is already open.
 fn mark_handed(events: &mut Vec<OpenEvent>, event: KeptEvent) -> Result<(), AllocError>
     ensures { OnOk result (events.new.items ≡ mark_handed event events.old.items) }
 {
@@ -219,7 +221,7 @@ fn mark_begun(events: &mut [OpenEvent], event: &KeptEvent)
     }
 }
 
-/// Whether `other` isn't `event`.
+/// Returns whether `other` is a different event from `event`.
 fn is_other(event: &KeptEvent, other: &OpenEvent) -> bool
     ensures { result ≡ not (same_event event.now other.now.event) }
 {
@@ -233,7 +235,7 @@ fn mark_done(events: &mut Vec<OpenEvent>, event: &KeptEvent)
     events.retain(|other| is_other(event, other));
 }
 
-/// Whether the time of `other` is above `time`.
+/// Returns whether the time of `other` is above `time`.
 fn is_above(time: u64, other: &OpenEvent) -> bool
     ensures { result ≡ nat_lt time other.now.event.time }
 {
@@ -247,7 +249,7 @@ fn mark_done_up_to(events: &mut Vec<OpenEvent>, time: u64)
     events.retain(|other| is_above(time, other));
 }
 
-/// The open events after one more line.
+/// Updates the open events by one more line.
 fn apply(events: &mut Vec<OpenEvent>, alloc: Global, line: &[u8]) -> Result<(), AllocError>
     ensures { OnOk result (events.new.items ≡ open_after events.old.items (handler_line line.now)) }
 {
@@ -261,7 +263,7 @@ fn apply(events: &mut Vec<OpenEvent>, alloc: Global, line: &[u8]) -> Result<(), 
     Ok(())
 }
 
-/// What follows the first line `#done TIME` of `text`, or `None` if there is no such line.
+/// Returns the rest of `text` after its first line `#done TIME`, or `None` if there is no such line.
 fn tracked_part(text: &[u8]) -> Option<&[u8]>
     ensures { MatchOption result
         ((is_tracked text.now ≡ false) × (tracked_lines (lines_of text.now) ≡ []))
@@ -280,21 +282,23 @@ fn tracked_part(text: &[u8]) -> Option<&[u8]>
     }
 }
 
-/// Whether `text` has a line `#done TIME`, so that its later lines say what became of handlers. Allocates no memory.
+/// Returns whether `text` has a line `#done TIME`, so that its later lines record what happened to handlers.
+/// Allocates no memory.
 pub fn is_tracked(text: &[u8]) -> bool
     ensures { result ≡ is_tracked text.now }
 {
     tracked_part(text).is_some()
 }
 
-/// The open events of `text`, each of them once and in the order in which they were handed out, with whether its handler
-/// has begun. Returns an `AllocError` if memory runs out.
+/// Returns the open events of `text`, each of them once and in the order in which they were handed out, and for each
+/// of them whether its handler has begun. Returns an `AllocError` if memory runs out.
 ///
-/// Any bytes are a text. Before its first line `#done TIME`, a text says nothing of handlers, and nothing is open. After
-/// it, the lines are read in order. `#event TIME NAME PAYLOAD` opens an event, and so does `#open TIME NAME PAYLOAD`, if
-/// it isn't open already. `#begun TIME NAME PAYLOAD` says that its handler has begun. `#done TIME NAME PAYLOAD` says that
-/// it is done. `#done TIME` says that all events of the lines above are done, up to that time. A line that says that an
-/// event has begun or is done changes nothing if this event isn't open. Each other line is skipped.
+/// A text may consist of any bytes. Before its first line `#done TIME`, a text says nothing about handlers, and no
+/// event is open. The lines after it are read in order. `#event TIME NAME PAYLOAD` or `#open TIME NAME PAYLOAD` opens
+/// an event, unless it is already open. `#begun TIME NAME PAYLOAD` means that the event's handler has begun.
+/// `#done TIME NAME PAYLOAD` means that the event is done. `#done TIME` means that all events of earlier lines are
+/// done, up to that time. A `#begun` or `#done` line has no effect on an event that isn't open. Every other line is
+/// skipped.
 pub fn read_open_events(alloc: Global, text: &[u8]) -> Result<Vec<OpenEvent>, AllocError>
     ensures { IfOk result (λ events. events.items ≡ open_events text.now) }
 {

@@ -1,4 +1,5 @@
-//! What is read from the lines of an agent that keeps its events: the kept events and queries, and the minimums.
+//! The values that are read from the lines of an agent that keeps its events: the kept events and queries, and the
+//! minimum times.
 
 ghost use Rattle.std.specs.Prelude.{◌≡◌};
 
@@ -23,7 +24,7 @@ impl Model for KeptEvent {
 }
 
 impl KeptEvent {
-    /// The event of `time`, `name` and `payload`. Allocates no memory.
+    /// Returns the event with this time, name and payload. Allocates no memory.
     pub(crate) fn new(time: Time, name: Vec<u8>, payload: Vec<u8>) -> KeptEvent
         ensures { result ≡ record { time = time; name = name.items; payload = payload.items } }
     {
@@ -34,21 +35,21 @@ impl KeptEvent {
         }
     }
 
-    /// The event's time. Allocates no memory.
+    /// Returns the event's time. Allocates no memory.
     pub fn time(&self) -> Time
         ensures { result ≡ self.now.time }
     {
         self.time
     }
 
-    /// The event's name. Allocates no memory.
+    /// Returns the event's name. Allocates no memory.
     pub fn name(&self) -> &[u8]
         ensures { result.now ≡ self.now.name }
     {
         self.name.as_slice()
     }
 
-    /// The event's payload. Allocates no memory.
+    /// Returns the event's payload. Allocates no memory.
     pub fn payload(&self) -> &[u8]
         ensures { result.now ≡ self.now.payload }
     {
@@ -66,22 +67,22 @@ pub struct KeptQuery {
 /// Selects the events or queries that are read from a text.
 #[derive(Clone, Copy, Debug, PartialEq, Eq)]
 pub struct EntryFilter {
-    /// The first time that is selected.
+    /// The smallest time that the filter selects.
     pub from: u64,
-    /// The first time that is no longer selected.
+    /// The filter selects only times below this one.
     pub below: u64,
     /// The maximum length of an event's name and payload together, in bytes.
     pub longest: u64,
 }
 
-/// The minimum time that an agent accepts for events, and the one for queries.
+/// The minimum times that an agent accepts: one for events, and one for queries.
 #[derive(Clone, Copy, Debug, PartialEq, Eq)]
 pub struct MinTimes {
     pub events: u64,
     pub queries: u64,
 }
 
-/// The times that the lines of a text contain: its clocks, and the minimums for events and queries.
+/// The times that the lines of a text contain: its clocks, and the minimum times for events and queries.
 #[derive(Clone, Copy, Debug, PartialEq, Eq)]
 pub struct TextTimes {
     pub clocks: Clocks,

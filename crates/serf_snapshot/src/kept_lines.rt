@@ -1,4 +1,4 @@
-//! Reads one line of an agent that keeps its events: an event, a query, or a minimum.
+//! Reads single lines of an agent that keeps its events: the line of an event, of a query, or of a minimum time.
 
 ghost use Rattle.std.specs.Prelude.{false, ◌≡◌, ◌<◌, ◌++◌, ◌==◌, IfOk, MatchOption, OnOk, Some, None, max};
 ghost use Rattle.std.specs.List.{slice_split};
@@ -14,7 +14,7 @@ use hex::FromHexError;
 use serf_lamport::Time;
 use std::alloc::{AllocError, Global};
 
-/// The time that `digits` write, or `None` if it is 0.
+/// Returns the time that `digits` spell, or `None` if they spell 0 or don't spell a time.
 fn time_above_zero(digits: &[u8]) -> Option<Time>
     ensures { MatchOption result (time_text_value (Some digits.now) ≡ 0)
         (λ t. (time_text_value (Some digits.now) ≡ t) × ((t == 0) ≡ false)) }
@@ -23,7 +23,7 @@ fn time_above_zero(digits: &[u8]) -> Option<Time>
     if time == 0 { None } else { Time::new(time) }
 }
 
-/// What follows `prefix` in `line`, or `None` if `line` doesn't begin with it.
+/// Returns the rest of `line` after `prefix`, or `None` if `line` doesn't begin with `prefix`.
 pub(crate) fn strip_line_prefix<'a>(prefix: &[u8], line: &'a [u8]) -> Option<&'a [u8]>
     ensures { MatchOption result (following prefix.now line.now ≡ None)
         (λ rest. following prefix.now line.now ≡ Some rest.now) }
@@ -34,7 +34,7 @@ pub(crate) fn strip_line_prefix<'a>(prefix: &[u8], line: &'a [u8]) -> Option<&'a
     }
 }
 
-/// The bytes that `digits` write in hex, or `None` if they aren't pairs of hex digits.
+/// Returns the bytes that `digits` spell in hex, or `None` if `digits` don't consist of pairs of hex digits.
 fn hex_bytes(alloc: Global, digits: &[u8]) -> Result<Option<Vec<u8>>, AllocError>
     ensures { IfOk result (λ found. MatchOption found (bytes_of_hex digits.now ≡ None)
         (λ bytes. bytes_of_hex digits.now ≡ Some bytes.items)) }
@@ -46,8 +46,8 @@ fn hex_bytes(alloc: Global, digits: &[u8]) -> Result<Option<Vec<u8>>, AllocError
     }
 }
 
-/// The event of the parts of its line, or `None` if `time` isn't a time above 0, or if `name` or `payload` isn't in
-/// hex.
+/// Returns the event with these parts of its line, or `None` if `time` isn't a time above 0, or if `name` or
+/// `payload` isn't in hex.
 fn event_of(
     alloc: Global,
     time: &[u8],
@@ -69,7 +69,7 @@ fn event_of(
     }
 }
 
-/// The event of `text`, or `None` if `text` isn't a time, a name and a payload between single spaces.
+/// Returns the event in `text`, or `None` if `text` isn't a time, a name and a payload, separated by single spaces.
 pub(crate) fn event_of_text(alloc: Global, text: &[u8]) -> Result<Option<KeptEvent>, AllocError>
     ensures { IfOk result (λ found. found
         ≡ event_from_parts (slice_split (λ b. b == 32) text.now)) }
@@ -89,7 +89,7 @@ pub(crate) fn event_of_text(alloc: Global, text: &[u8]) -> Result<Option<KeptEve
     }
 }
 
-/// The event of `line`, or `None` if it isn't the line of an event.
+/// Returns the event in `line`, or `None` if `line` isn't the line of an event.
 pub(crate) fn event_in(alloc: Global, line: &[u8]) -> Result<Option<KeptEvent>, AllocError>
     ensures { IfOk result (λ found. found ≡ event_of_line line.now) }
 {
@@ -99,7 +99,7 @@ pub(crate) fn event_in(alloc: Global, line: &[u8]) -> Result<Option<KeptEvent>, 
     }
 }
 
-/// Appends the event of `line` to `events`, if the line has an event and `wanted` selects it.
+/// Appends the event in `line` to `events`, if there is one and `wanted` selects it.
 pub(crate) fn take_event(
     events: &mut Vec<KeptEvent>,
     alloc: Global,
@@ -120,7 +120,7 @@ pub(crate) fn take_event(
     }
 }
 
-/// The ID that `digits` write, or `None` if they don't write a number below 2^32.
+/// Returns the ID that `digits` spell, or `None` if they don't spell a number below 2^32.
 fn id_in(digits: &[u8]) -> Option<u32>
     ensures { result ≡ id_of digits.now }
 {
@@ -135,7 +135,7 @@ fn id_in(digits: &[u8]) -> Option<u32>
     }
 }
 
-/// The query of the parts of its line, or `None` if `time` isn't a time above 0, or if `id` isn't an ID.
+/// Returns the query with these parts of its line, or `None` if `time` isn't a time above 0, or if `id` isn't an ID.
 fn query_of(time: &[u8], id: &[u8]) -> Option<KeptQuery>
     ensures { result ≡ query_from (time_text_value (Some time.now)) (id_of id.now) }
 {
@@ -148,7 +148,7 @@ fn query_of(time: &[u8], id: &[u8]) -> Option<KeptQuery>
     }
 }
 
-/// The query of `text`, or `None` if `text` isn't a time and an ID between single spaces.
+/// Returns the query in `text`, or `None` if `text` isn't a time and an ID, separated by a single space.
 fn query_of_text(text: &[u8]) -> Option<KeptQuery>
     ensures { result ≡ query_from_parts (slice_split (λ b. b == 32) text.now) }
 {
@@ -163,7 +163,7 @@ fn query_of_text(text: &[u8]) -> Option<KeptQuery>
     }
 }
 
-/// The query of `line`, or `None` if it isn't the line of a query.
+/// Returns the query in `line`, or `None` if `line` isn't the line of a query.
 fn query_in(line: &[u8]) -> Option<KeptQuery>
     ensures { result ≡ query_of_line line.now }
 {
@@ -173,7 +173,7 @@ fn query_in(line: &[u8]) -> Option<KeptQuery>
     }
 }
 
-/// Appends the query of `line` to `queries`, if the line has a query and `wanted` selects it.
+/// Appends the query in `line` to `queries`, if there is one and `wanted` selects it.
 pub(crate) fn take_query(
     queries: &mut Vec<KeptQuery>,
     line: &[u8],
@@ -193,7 +193,7 @@ pub(crate) fn take_query(
     }
 }
 
-/// Whether the first of the `digits` is 0.
+/// Returns whether the first of the `digits` is 0.
 fn has_zero_in_front(digits: &[u8]) -> bool
     ensures { result ≡ begins_with_zero digits.now }
 {
@@ -203,8 +203,8 @@ fn has_zero_in_front(digits: &[u8]) -> bool
     }
 }
 
-/// One above the time that `digits` write, if there is no zero in front: an agent that wrote no zero kept no events.
-/// The result is 0 if there is a zero in front, or if the digits don't write a time.
+/// Returns one above the time that `digits` spell, if there is no leading zero. An agent that wrote no leading zero
+/// kept no events. Returns 0 if there is a leading zero, or if the digits don't spell a time.
 fn above_unkept(digits: &[u8]) -> u64
     ensures { result ≡ above_unkept (Some digits.now) }
 {
@@ -219,7 +219,8 @@ fn above_unkept(digits: &[u8]) -> u64
     }
 }
 
-/// The number of a `#least` line, which may be 2^64 - 1; 0 if `digits` aren't all digits, or if there are none.
+/// Returns the number of a `#least` line, which may be 2^64 - 1. Returns 0 if `digits` is empty or contains any other
+/// character.
 fn min_time_of(digits: &[u8]) -> u64
     ensures { result ≡ min_text_value (Some digits.now) }
 {
@@ -229,7 +230,7 @@ fn min_time_of(digits: &[u8]) -> u64
     number_of(digits)
 }
 
-/// The minimum of `kind` that `line` sets, or 0 if it sets none.
+/// Returns the minimum of `kind` that `line` sets, or 0 if it sets none.
 pub(crate) fn min_after(kind: ClockKind, line: &[u8]) -> u64
     ensures { result ≡ min_of_line kind line.now }
 {

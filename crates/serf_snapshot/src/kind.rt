@@ -6,16 +6,16 @@ ghost use Rattle.serf_snapshot.specs.Clocks.{prefix_of};
 /// The three kinds of clock lines.
 #[derive(Clone, Copy, Debug, PartialEq, Eq)]
 pub enum ClockKind {
-    /// `clock: `, for the member clock.
+    /// The member clock, whose lines begin with `clock: `.
     Member,
-    /// `event-clock: `, for the event clock.
+    /// The event clock, whose lines begin with `event-clock: `.
     Event,
-    /// `query-clock: `, for the query clock.
+    /// The query clock, whose lines begin with `query-clock: `.
     Query,
 }
 
 impl ClockKind {
-    /// The prefix with which a clock line of this kind begins.
+    /// Returns the prefix with which a clock line of this kind begins.
     pub(crate) fn prefix(self) -> &'static [u8]
         ensures { result.now ≡ prefix_of self }
     {

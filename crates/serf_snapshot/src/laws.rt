@@ -1,5 +1,5 @@
-//! The laws of snapshot texts, of snapshots, and of the lines of an agent that keeps its events, as clauses of
-//! functions with empty bodies.
+//! States the laws of snapshot texts, of snapshots, and of the lines of an agent that keeps its events. Each law is a
+//! clause of a function with an empty body.
 
 ghost use Rattle.std.specs.Prelude.{◌≡◌, ◌≢◌, ◌↔◌, ◌<◌, ◌≤◌, ◌++◌, ℕ, All, List, Option, IsSome, false, true, max, [], ◌+◌, ◌*◌, ◌^◌, ◌∷◌, None, Some, codes, decimal, length, take};
 ghost use Rattle.serf_lamport.specs.Clock.{max_clock};
@@ -18,8 +18,8 @@ ghost use Rattle.serf_snapshot.specs.OtherLines.{AreOtherLines, DiffersInOtherLi
 ghost use Rattle.serf_snapshot.specs.declared.handlers.OpenEvent.{OpenEvent};
 ghost use Rattle.serf_snapshot.specs.TimedEvent.{TimedEvent, timed_event};
 
-/// How the clocks of a text change: no bytes after the text lower them, a line raises the clock of its own kind to its
-/// time and no other clock, and neither a seal nor a compaction changes a clock.
+/// States how the clocks of a text change. Appended bytes never lower a clock. A line raises the clock of its own
+/// kind to its time, and changes no other clock. Neither a seal nor a compaction changes a clock.
 pub fn text_laws()
     ensures grows { (k : ClockKind) (front tail : List ℕ)
         → last_clock k front ≤ last_clock k (front ++ tail) }
@@ -38,8 +38,8 @@ pub fn text_laws()
     ensures compacted_whole { (m e q : ℕ) → is_whole (compacted_text m e q) ≡ true }
 {}
 
-/// The last lines of a snapshot agree with what its sink keeps. This holds after an opening, and each appended line and
-/// each compaction preserves it, even if it fails.
+/// The last lines of a snapshot agree with the text that its sink keeps. They agree when the snapshot is opened, and
+/// they still agree after each appended line and each compaction, even after those that failed.
 pub fn snapshot_laws()
     ensures opened { (text : List ℕ) (d : Device) → IsSnapshotSound (opened text d) }
     ensures noted { (k : ClockKind) (s : SnapshotView) (t : ℕ) → IsSnapshotSound s
@@ -56,8 +56,8 @@ pub fn snapshot_laws()
         → IsSnapshotSound (compacted s (Failed durable)) }
 {}
 
-/// If a sink has a plan, there is exactly one thing that it may do, and afterwards it still exposes its bytes and has a
-/// plan.
+/// If a sink has a plan, the plan leaves only one possible outcome for each call. Afterwards the sink still exposes
+/// its bytes and still has a plan.
 pub fn plan_laws()
     ensures write { (s : SnapshotView) (line : List ℕ) (w : Writing) → IsSome s.plan
         → MayWrite s line w ↔ (w ≡ will_write s) }
@@ -73,9 +73,9 @@ pub fn plan_laws()
         → MayReplace s w → IsObservable (compacted s w) }
 {}
 
-/// What the lines of events mean: a written line reads back as the event that was written, and a proper prefix of it
-/// reads as nothing. No bytes after a text remove an event from it, and a seal changes no event. A line that begins
-/// with `#` changes no clock, wherever it is in the text.
+/// States what the lines of events mean. A written line reads back as the event that was written, and a proper prefix
+/// of the line reads back as nothing. Bytes that follow a text never remove an event from it, and a seal changes no
+/// event. A line that begins with `#` changes no clock, wherever it is in the text.
 pub fn event_line_laws()
     ensures written { (w : EntryFilter) (text : List ℕ) (t : ℕ) (name payload : List ℕ)
         → is_whole text ≡ true → 0 < t → t < max_clock → IsBytes name → IsBytes payload
@@ -95,7 +95,7 @@ pub fn event_line_laws()
         → last_clock k (front ++ (35 ∷ line ++ 10 ∷ back)) ≡ last_clock k (front ++ back) }
 {}
 
-/// What the lines of queries mean, as `event_line_laws` has it for events, and the maximum length of a line.
+/// States what the lines of queries mean, as `event_line_laws` does for events, and the maximum length of a line.
 pub fn query_line_laws()
     ensures written { (w : EntryFilter) (text : List ℕ) (t id : ℕ) → is_whole text ≡ true → 0 < t
         → t < max_clock → id < 2 ^ 32 → queries_in w (text ++ query_line t id)
@@ -111,10 +111,11 @@ pub fn query_line_laws()
         → length (query_line t id) ≤ 39 }
 {}
 
-/// How the minimums of a text change: no bytes after the text lower them. If a whole text is followed by another, each
-/// minimum is the larger of the two. A `#least` line raises the minimum of its own kind to its number. A clock line
-/// raises the minimum of its own kind to one above its time, unless its number has a zero in front. Neither the lines
-/// of events and queries nor a seal changes a minimum. A zero in front changes no clock.
+/// States how the minimum times of a text change. Appended bytes never lower a minimum. If a second text follows one
+/// that has no torn last line, each minimum is the larger of the minimums of the two texts. A `#least` line raises
+/// the minimum of its own kind to its number. A clock line raises the minimum of its own kind to one above its time,
+/// unless its number has a leading zero. Neither the lines of events and queries nor a seal changes a minimum. A
+/// leading zero changes no clock.
 pub fn min_time_laws()
     ensures grows { (k : ClockKind) (front tail : List ℕ)
         → min_in k front ≤ min_in k (front ++ tail) }
@@ -145,9 +146,9 @@ pub fn min_time_laws()
         → last_clock k (text ++ kept_clock_line j t) ≡ last_clock k text }
 {}
 
-/// What is read from a text can be written again: events and queries have times above 0, the texts of an event are
-/// bytes, and the ID of a query is below 2^32. The minimums are also times above 0, or 2^64 - 1, which is above all
-/// times.
+/// Whatever is read from a text can be written again. Events and queries have times above 0, the name and the payload
+/// of an event consist of bytes, and the ID of a query is below 2^32. The minimums are also times above 0, or
+/// 2^64 - 1, which is above all times.
 pub fn read_laws()
     ensures events { (w : EntryFilter) (text : List ℕ) → All (λ e. (0 < e.time)
         × (e.time < max_clock) × IsBytes e.name × IsBytes e.payload) (events_in w text) }
@@ -157,11 +158,11 @@ pub fn read_laws()
         × (min_in k text ≤ max_clock) }
 {}
 
-/// Which events a text contains: what follows a whole text adds its own events after those of that text. The line of an
-/// event contains that event, if the filter selects it. The line of a query, a `#least` line and a clock line contain
-/// none, whatever their numbers are. So the compaction of an agent that keeps no events contains none, and that of an
-/// agent that keeps its events contains those of the lines that it keeps. [`text_laws`] and [`kept_append_line_laws`]
-/// say that the lines themselves are whole.
+/// States which events a text contains. If a second text follows one that has no torn last line, its events follow
+/// those of the first text. The line of an event contains this event, if the filter selects it. The line of a query,
+/// a `#least` line and a clock line contain no event, whatever their numbers are. So if an agent keeps no events, its
+/// compaction contains none. If it keeps its events, its compaction contains the events of the lines that it keeps.
+/// [`text_laws`] and [`kept_append_line_laws`] state that the lines themselves are whole.
 pub fn said_laws()
     ensures joined { (w : EntryFilter) (front tail : List ℕ) → is_whole front ≡ true
         → events_in w (front ++ tail) ≡ events_in w front ++ events_in w tail }
@@ -181,7 +182,7 @@ pub fn said_laws()
         → is_whole (kept_compaction_of lines s) ≡ true }
 {}
 
-/// Which queries a text contains, as `said_laws` has it for events: only the lines of queries contain any.
+/// States which queries a text contains, as `said_laws` does for events. Only the lines of queries contain queries.
 pub fn said_query_laws()
     ensures joined { (w : EntryFilter) (front tail : List ℕ) → is_whole front ≡ true
         → queries_in w (front ++ tail) ≡ queries_in w front ++ queries_in w tail }
@@ -200,9 +201,10 @@ pub fn said_query_laws()
         → queries_in w (kept_compaction_of lines s) ≡ queries_in w lines }
 {}
 
-/// The last lines of a snapshot agree with what its sink keeps after each appended line and each compaction of an agent
-/// that keeps its events, even if it fails. This requires that the lines that it writes in addition to its clock lines
-/// are whole and contain no clock line, as is true of each line of an event, of a query and of a minimum.
+/// If an agent keeps its events, the last lines of its snapshot also agree with the text that the sink keeps. They
+/// still agree after each appended line and each compaction, even after those that failed. The agent's lines other
+/// than clock lines must be whole and must contain no clock line. Each line of an event, of a query and of a minimum
+/// meets this condition.
 pub fn kept_append_line_laws()
     ensures noted { (k : ClockKind) (s : SnapshotView) (t : ℕ) (line : List ℕ) → IsSnapshotSound s
         → s.stopped ≡ false → t < max_clock → SaysNoClock line
@@ -227,10 +229,11 @@ pub fn kept_append_line_laws()
         → is_whole (text ++ line) ≡ true }
 {}
 
-/// What a text says of handlers, whoever wrote it and in whatever order. Each event that its tracked lines hand out, by its
-/// own line or by an `#open` line, is open, or a line says that it is done. An open event has begun only if a line says so.
-/// So each event of these lines still waits, or a line says that it has begun, or that it is done. After a line that says
-/// that an event has begun, this event doesn't wait again, unless a later line hands it out again.
+/// States what a text says about handlers, no matter which programs wrote its lines, and in which order. Its tracked
+/// lines hand out an event by the event's own line or by an `#open` line. Each event that they hand out is open,
+/// unless a line says that it is done. An open event has begun only if a line says so. So each of these events still
+/// waits for its handler, unless a line says that it has begun or that it is done. After a line says that an event
+/// has begun, this event doesn't wait again, unless a later line hands it out again.
 pub fn handler_laws()
     ensures handed { EventsAreHanded }
     ensures reported { ReportedOrDone }
@@ -239,10 +242,11 @@ pub fn handler_laws()
     ensures once { NeverWaitsAgain }
 {}
 
-/// What becomes of the open events of a file. Its first line `#done TIME` begins with nothing open. After that, whatever
-/// operations follow, over all kills, torn tails and compactions, the file reports exactly the events that were handed
-/// out and aren't done, in order, each with whether its handler has begun. The lines of clocks, minimums and queries, and
-/// members' lines, say nothing of handlers, so they may follow the lines of a compaction and may be appended at any time.
+/// States what happens to the open events of a file. After the file's first line `#done TIME`, no event is open. From
+/// then on, the file reports exactly the events that were handed out and aren't done, in order, and for each of them
+/// whether its handler has begun. This holds after any sequence of operations, with kills, torn tails and
+/// compactions. The lines of clocks, minimums, queries and members say nothing about handlers. So they may follow the
+/// lines of a compaction, and may be appended at any time.
 pub fn file_step_laws()
     ensures starts { StartsTracking }
     ensures reports { ReportsAll }
@@ -255,9 +259,9 @@ pub fn file_step_laws()
     ensures both { (a b : List ℕ) → AreSilent a → AreSilent b → AreSilent (a ++ b) }
 {}
 
-/// What an agent writes by itself, in lives that don't track handlers: its lines say of no event that it has begun, is
-/// done, or is open. So they leave a text untracked, also if a kill tears the last of them and the next opening seals it,
-/// and so does a compaction.
+/// States what an agent writes by itself in lives that don't track handlers. None of these lines says that an event
+/// has begun, is done, or is open. So the lines leave a text untracked, even if a kill tears the last of them and the
+/// next opening seals it. A compaction leaves the text untracked too.
 pub fn untracked_laws()
     ensures leaves { LeavesUntracked }
     ensures event { (t : ℕ) (name payload : List ℕ) → AreUntracked (event_line t name payload) }
@@ -271,9 +275,10 @@ pub fn untracked_laws()
         → AreUntracked (kept_compaction_of lines s) }
 {}
 
-/// Texts that differ only in other lines, which say nothing of clocks, minimums, events and queries, read the same. They
-/// still differ only in other lines after the same bytes are appended to both, and after the seals of their torn lines.
-/// Whole other lines may be inserted at the beginning of a line; any other insertion of a line is refused.
+/// Other lines are those that say nothing about clocks, minimums, events and queries. If two texts differ only in
+/// other lines, both read the same. They still differ only in other lines after the same bytes are appended to both,
+/// and after their torn lines are sealed. Whole other lines may be inserted at the beginning of any line. If a line
+/// of any other kind is inserted there, the texts no longer differ only in other lines.
 pub fn other_lines_laws()
     ensures clocks { (k : ClockKind) (a b : List ℕ) → DiffersInOtherLines a b
         → last_clock k a ≡ last_clock k b }
@@ -299,9 +304,10 @@ pub fn other_lines_laws()
         → DiffersInOtherLines a c }
 {}
 
-/// Which lines are other lines, whatever follows these words: those of members, `alive:` and `not-alive:`, and those about
-/// handlers, `#begun`, `#done` and `#open`. A clock line above 0, a line of a minimum above 0, and the line of an event or
-/// of a query aren't. The lines that a compaction has for open events are other lines.
+/// States which lines are other lines. The lines of members (`alive:` and `not-alive:`) and those about handlers
+/// (`#begun`, `#done` and `#open`) are, whatever follows these words. A clock line above 0, a line of a minimum above
+/// 0, and the line of an event or of a query aren't. The lines that a compaction writes for open events are other
+/// lines.
 pub fn other_line_laws()
     ensures alive { (rest : List ℕ) → is_other_line (codes "alive: " ++ rest) ≡ true }
     ensures not_alive { (rest : List ℕ) → is_other_line (codes "not-alive: " ++ rest) ≡ true }

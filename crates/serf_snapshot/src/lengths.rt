@@ -1,5 +1,5 @@
-//! The lengths, in bytes, of a snapshot's text and of its lines of kept events and queries. None of these calls
-//! allocates memory.
+//! Computes the lengths, in bytes, of a snapshot's text and of its lines for kept events and queries. None of these
+//! functions allocates memory.
 
 ghost use Rattle.std.specs.Prelude.{◌≡◌, ◌-◌, ◌*◌, ◌^◌, ◌<◌, ◌≤◌, ◌&&◌, List, ℕ, decimal, false, length, min, nat_le, nat_lt};
 ghost use Rattle.serf_snapshot.specs.Clocks.{line_above_zero, sealed};
@@ -13,7 +13,8 @@ use crate::kind::ClockKind;
 use itoa::Buffer;
 use serf_lamport::Time;
 
-/// The length of `text` in bytes after its last line, if it is torn, was ended by two more bytes; at most 2^64 - 1.
+/// Returns the length that `text` has once a torn last line is sealed, in bytes. The seal of a torn line adds two
+/// bytes. The result is at most 2^64 - 1.
 pub(crate) fn sealed_length(text: &[u8]) -> u64
     ensures { result ≡ min (length (sealed text.now)) (2 ^ 64 - 1) }
 {
@@ -25,7 +26,7 @@ pub(crate) fn sealed_length(text: &[u8]) -> u64
     }
 }
 
-/// How many decimal digits `n` has.
+/// Returns the number of decimal digits of `n`.
 fn digits_of(n: u64) -> u64
     ensures exact { result ≡ length (decimal n) }
     ensures short { result ≤ 20 }
@@ -34,38 +35,40 @@ fn digits_of(n: u64) -> u64
     buffer.format(n).len() as u64
 }
 
-/// How many hex digits write `bytes`; at most 2^64 - 1.
+/// Returns how many hex digits spell `bytes`. The result is at most 2^64 - 1.
 fn hex_length(bytes: &[u8]) -> u64
     ensures { result ≡ min (2 * length bytes.now) (2 ^ 64 - 1) }
 {
     (bytes.len() as u64).saturating_mul(2)
 }
 
-/// The length of an event's line in bytes, as `write_event_line` writes it; at most 2^64 - 1. Allocates no memory.
+/// Returns the length, in bytes, of the line that `write_event_line` writes for an event. The result is at most
+/// 2^64 - 1. Allocates no memory.
 pub fn event_line_length(time: Time, name: &[u8], payload: &[u8]) -> u64
     ensures { result ≡ counted (event_line time name.now payload.now) }
 {
     let texts = hex_length(name).saturating_add(hex_length(payload));
-    // The 10 are `#event `, a space before each text, and the newline.
+    // These 10 bytes are `#event `, a space before each text, and the newline.
     texts.saturating_add(digits_of(time.get()) + 10)
 }
 
-/// The length of a query's line in bytes, as `write_query_line` writes it. Allocates no memory.
+/// Returns the length, in bytes, of the line that `write_query_line` writes for a query. Allocates no memory.
 pub fn query_line_length(time: Time, id: u32) -> u64
     ensures { result ≡ length (query_line time id) }
 {
-    // The 9 are `#query `, the space before the ID, and the newline.
+    // These 9 bytes are `#query `, the space before the ID, and the newline.
     digits_of(time.get()) + digits_of(id as u64) + 9
 }
 
-/// The length of a `#least` line in bytes, as `write_min_line` writes it. Allocates no memory.
+/// Returns the length, in bytes, of the `#least` line that `write_min_line` writes. Allocates no memory.
 pub fn min_line_length(kind: ClockKind, time: u64) -> u64
     ensures { result ≡ length (min_line kind time) }
 {
     min_prefix_of(kind).len() as u64 + digits_of(time) + 1
 }
 
-/// The length in bytes of the clock line of `time` with its newline; 0 if `time` is 0, which has no line.
+/// Returns the length, in bytes, of the clock line of `time` with its newline. The time 0 has no line, so its length
+/// is 0.
 fn line_length(kind: ClockKind, time: u64) -> u64
     ensures exact { result ≡ length (line_above_zero kind time) }
     ensures short { result ≤ 34 }
@@ -76,8 +79,8 @@ fn line_length(kind: ClockKind, time: u64) -> u64
     kind.prefix().len() as u64 + digits_of(time) + 1
 }
 
-/// The length in bytes of the clock line of `time` with a zero in front of its number and with its newline; 0 if `time`
-/// is 0, which has no line.
+/// Returns the length, in bytes, of the clock line of `time` with a leading zero in its number and with its newline.
+/// The time 0 has no line, so its length is 0.
 fn kept_line_length(kind: ClockKind, time: u64) -> u64
     ensures exact { result ≡ length (kept_line_above_zero kind time) }
     ensures short { result ≤ 35 }
@@ -88,8 +91,8 @@ fn kept_line_length(kind: ClockKind, time: u64) -> u64
     kind.prefix().len() as u64 + digits_of(time) + 2
 }
 
-/// The length in bytes of the clock line of `time` in a compaction. If `kept` is true, lines of kept events, of queries
-/// or of minimums come before it, and its number has a zero in front.
+/// Returns the length, in bytes, of the clock line of `time` in a compaction. If `kept` is true, lines of kept
+/// events, of queries or of minimums precede the clock line, and its number has a leading zero.
 fn length_after(kept: bool, kind: ClockKind, time: u64) -> u64
     ensures exact { result ≡ length (time_above_zero kept kind time) }
     ensures short { result ≤ 35 }
@@ -101,8 +104,8 @@ fn length_after(kept: bool, kind: ClockKind, time: u64) -> u64
     line_length(kind, time)
 }
 
-/// The length in bytes of a compaction's text: `lines_length` for the other lines (0: none), and the length of the
-/// clock lines of `last`; at most 2^64 - 1.
+/// Returns the length of a compaction's text in bytes. This is `lines_length`, the length of the other lines (0 if
+/// there are none), plus the length of the clock lines of `last`. The result is at most 2^64 - 1.
 pub(crate) fn compaction_length(lines_length: u64, last: Clocks) -> u64
     ensures exact { (lines : List ℕ) → lines_length ≡ counted lines → result ≡ counted
         (compaction_bytes lines last.member_clock last.event_clock last.query_clock) }
@@ -115,8 +118,9 @@ pub(crate) fn compaction_length(lines_length: u64, last: Clocks) -> u64
     lines_length.saturating_add(clocks_length)
 }
 
-/// Whether it is worth replacing a text of `kept` bytes with one of `new_length` bytes: the text has more than `limit`
-/// bytes, and at least half of them would be removed. A length above 2^64 - 1 counts as 2^64 - 1.
+/// Returns whether it is worth replacing a text of `kept` bytes with a text of `new_length` bytes. It is if the old
+/// text has more than `limit` bytes, and if the replacement removes at least half of them. A length above 2^64 - 1
+/// counts as 2^64 - 1.
 pub(crate) fn is_worth_replacing(limit: u64, kept: u64, new_length: u64) -> bool
     ensures exact { (new text : List ℕ) → new_length ≡ counted new → kept ≡ counted text
         → result ≡ is_worth_replacing limit new text }

@@ -1,22 +1,23 @@
-//! The clock lines of an agent's snapshot, on a device that may fail.
+//! Writes and reads the clock lines of an agent's snapshot, on a device that may fail.
 //!
-//! An agent writes the time of each event and query before it hands it out. So no later life of the agent hands out or
-//! fires anything at or below a time that was written (Serf's `snapshot.go`). Serf flushes at intervals, lets the last
-//! line of a kind count, appends after a torn line, and continues after a failed append. This crate does it
-//! differently:
+//! An agent writes the time of each event and query to its snapshot before it hands the event or query out. After a
+//! restart, the agent fires nothing at or below a time that was written. It also hands out nothing at or below such a
+//! time, unless it keeps its events (see below). Serf's `snapshot.go` also writes these times. But Serf flushes at
+//! intervals, uses the last line of each kind, appends after a torn line, and continues after a failed append. This
+//! crate differs from Serf in these points:
 //!
 //! - [`Snapshot::append_line`] writes a line with one append and one flush. If it returns Ok, the line is durable.
-//! - For each kind, the line with the largest time counts, so no bytes that are appended can lower a clock
-//!   ([`read_clocks`]).
-//! - A torn last line is ended by `#` and a newline before anything is written after it ([`Snapshot::open`]).
-//! - After its sink has failed, a snapshot is stopped. A compaction is one replace ([`Snapshot::compact`]).
+//! - [`read_clocks`] uses the line with the largest time of each kind, so appended bytes can never lower a clock.
+//! - [`Snapshot::open`] ends a torn last line with `#` and a newline before anything is written after it.
+//! - After its sink has failed, a snapshot is stopped, and refuses every further line and compaction.
+//! - [`Snapshot::compact`] replaces the whole text in one step.
 //!
-//! An agent can also keep the events and the queries that it accepted. Each of them has a line that begins with `#`
-//! ([`write_event_line`], [`Snapshot::append_line`], [`read_kept`]). Serf skips these lines, and so does
+//! An agent can also keep the events and queries that it accepted. Each of them then has its own line, which begins
+//! with `#` ([`write_event_line`], [`Snapshot::append_line`], [`read_kept`]). Serf skips these lines, and so does
 //! [`read_clocks`].
 //!
-//! The clauses of [`Sink`] and [`ReplaceSink`] say what a sink does to the bytes that it exposes. [`MemorySink`]
-//! exposes all of its bytes and fails as planned. For a sink on a file, use `FileStore` of `serf_store`.
+//! The clauses of [`Sink`] and [`ReplaceSink`] define what a sink does to the bytes that it exposes. [`MemorySink`]
+//! exposes all of its bytes, and fails only as planned. For a sink on a file, use `FileStore` of `serf_store`.
 #![tactic(auto)]
 
 mod clock_lines;

@@ -10,17 +10,18 @@ use std::marker::Model;
 
 /// A sink in memory, which exposes its bytes and fails only in the calls that the caller chose.
 ///
-/// A failed append or flush keeps what was durable, and drops what was buffered.
+/// If an append or a flush fails, the sink keeps the durable bytes and drops the buffered ones.
 #[derive(Drop)]
 pub struct MemorySink {
     bytes: Vec<u8>,
-    /// How many of the bytes are durable. They come before the buffered ones.
+    /// The number of durable bytes. They come before the buffered bytes.
     durable: usize,
-    /// Which append from now on fails, 0 if none does. The next two fields say the same for flushes and replaces.
+    /// If this is `n`, the `n`-th append from now on fails; if it is 0, none fails. The next two fields are the same
+    /// for flushes and replaces.
     failing_append: u64,
     failing_flush: u64,
     failing_replace: u64,
-    /// Whether a replace that fails keeps the new text.
+    /// Whether a replace that fails leaves the new text in the sink.
     keeps_new: bool,
     failures: u64,
     append_calls: u64,
@@ -52,21 +53,22 @@ impl Model for MemorySink {
 }
 
 impl MemorySink {
-    /// A sink that keeps no bytes and has no planned failure. Allocates no memory.
+    /// Returns a sink that keeps no bytes and has no planned failure. Allocates no memory.
     pub fn new(alloc: Global) -> Self
         ensures { result.device ≡ fresh_device [] }
     {
         MemorySink::keeping(Vec::new(alloc))
     }
 
-    /// A sink that keeps a copy of `text` and has no planned failure. Returns `AllocError` if memory runs out.
+    /// Returns a sink that keeps a copy of `text` and has no planned failure. Returns `AllocError` if memory runs
+    /// out.
     pub fn with(alloc: Global, text: &[u8]) -> Result<Self, AllocError>
         ensures { IfOk result (λ m. m.device ≡ fresh_device text.now) }
     {
         Ok(MemorySink::keeping(Vec::from_slice(alloc, text)?))
     }
 
-    /// A sink that keeps `bytes`, all of them durable, and has no planned failure.
+    /// Returns a sink that keeps `bytes`, all of them durable, and has no planned failure.
     fn keeping(bytes: Vec<u8>) -> Self
         ensures { result.device ≡ fresh_device bytes.items }
     {
@@ -85,8 +87,8 @@ impl MemorySink {
         }
     }
 
-    /// Makes the `n`-th append from now on fail, and no other; if `n` is 0, none fails. This replaces an earlier
-    /// number. Allocates no memory.
+    /// Makes only the `n`-th append from now on fail, or none if `n` is 0. This overrides an earlier call. Allocates
+    /// no memory.
     pub fn fail_append(&mut self, n: u64)
         ensures device { self.new.device ≡ with_plan (append_failing n) self.old.device }
         ensures room { self.new.room ≡ self.old.room }
@@ -94,8 +96,8 @@ impl MemorySink {
         self.failing_append = n;
     }
 
-    /// Makes the `n`-th flush from now on fail, and no other; if `n` is 0, none fails. This replaces an earlier number.
-    /// Allocates no memory.
+    /// Makes only the `n`-th flush from now on fail, or none if `n` is 0. This overrides an earlier call. Allocates
+    /// no memory.
     pub fn fail_flush(&mut self, n: u64)
         ensures device { self.new.device ≡ with_plan (flush_failing n) self.old.device }
         ensures room { self.new.room ≡ self.old.room }
@@ -103,9 +105,8 @@ impl MemorySink {
         self.failing_flush = n;
     }
 
-    /// Makes the `n`-th replace from now on fail, and no other; if `n` is 0, none fails. The failing replace keeps the
-    /// new text if `keeps_new` is true, and the old one otherwise. This replaces an earlier number. Allocates no
-    /// memory.
+    /// Makes only the `n`-th replace from now on fail, or none if `n` is 0. The failing replace keeps the new text if
+    /// `keeps_new` is true, and the old one otherwise. This overrides an earlier call. Allocates no memory.
     pub fn fail_replace(&mut self, n: u64, keeps_new: bool)
         ensures device { self.new.device ≡ with_plan (replace_failing n keeps_new) self.old.device }
         ensures room { self.new.room ≡ self.old.room }
@@ -114,7 +115,7 @@ impl MemorySink {
         self.keeps_new = keeps_new;
     }
 
-    /// The durable bytes, which are those that were flushed. Allocates no memory.
+    /// Returns the durable bytes, which are the bytes that were flushed. Allocates no memory.
     pub fn durable(&self) -> &[u8]
         ensures durable { durable_of self.now.device ≡ Some result.now }
         ensures plan { IsSome self.now.device.plan }
@@ -122,7 +123,7 @@ impl MemorySink {
         &self.bytes[..self.durable]
     }
 
-    /// The bytes that were appended since the last flush. Allocates no memory.
+    /// Returns the bytes that were appended since the last flush. Allocates no memory.
     pub fn buffered(&self) -> &[u8]
         ensures { option_map (λ (t : Observable). t.buffered) self.now.device.observed_bytes
             ≡ Some result.now }

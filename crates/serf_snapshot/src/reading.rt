@@ -1,4 +1,4 @@
-//! Reads the lines of a text: once for its times, and once for the events and queries that it keeps.
+//! Reads a snapshot's text in two ways: for its times, and for the events and queries that it keeps.
 
 ghost use Rattle.std.specs.Prelude.{◌≡◌, ◌<◌, ◌++◌, max, IfOk, OnOk};
 ghost use Rattle.serf_lamport.specs.Clock.{max_clock};
@@ -14,7 +14,8 @@ use crate::parts::first_line;
 use std::alloc::{AllocError, Global};
 
 impl TextTimes {
-    /// The times after one more line. The line may raise some of them, and never lowers one.
+    /// Returns these times, updated by one more line of the text. The line may raise some of the times, but never
+    /// lowers one.
     fn after_line(self, line: &[u8]) -> TextTimes
         ensures member { result.clocks.member_clock
             ≡ max self.clocks.member_clock (line_value Member line.now) }
@@ -39,12 +40,13 @@ impl TextTimes {
     }
 }
 
-/// The times that the lines of a text contain: its clocks, as [`read_clocks`] returns them, and the minimums for events
-/// and queries. Allocates no memory.
+/// Returns the times that the lines of a text contain: its clocks, as [`read_clocks`] returns them, and the minimum
+/// times for events and queries. Allocates no memory.
 ///
-/// The minimum of a kind is the largest that a line sets, and at least 1. A line of a minimum, `#least event-clock: N`
-/// or `#least query-clock: N`, sets N, or 2^64 - 1 if N is larger. A clock line without a zero in front of its number
-/// sets one above the number, because an agent that wrote no zero kept no events. Each other line is skipped.
+/// The minimum of a kind is the largest that any line sets, and at least 1. A line `#least event-clock: N` or
+/// `#least query-clock: N` sets the minimum to N, or to 2^64 - 1 if N is larger. A clock line whose number has no
+/// leading zero sets the minimum to one above this number, because the agent that wrote this line kept no events.
+/// Every other line is skipped.
 pub fn read_times(text: &[u8]) -> TextTimes
     ensures member { result.clocks.member_clock ≡ last_clock Member text.now }
     ensures event { result.clocks.event_clock ≡ last_clock Event text.now }
@@ -76,11 +78,11 @@ pub fn read_times(text: &[u8]) -> TextTimes
     }
 }
 
-/// The largest value of the clock lines of each kind in a text. Allocates no memory.
+/// Returns the largest value of the clock lines of each kind in a text. Allocates no memory.
 ///
-/// Any bytes are a text. A line ends with a newline, so bytes after the last newline aren't a line. A clock line is
-/// `clock: N`, `event-clock: N` or `query-clock: N`, where N has one or more digits and is below 2^64 - 1. Each other
-/// line is skipped.
+/// A text may consist of any bytes. A line ends with a newline, so any bytes after the last newline aren't a line. A
+/// clock line is `clock: N`, `event-clock: N` or `query-clock: N`, where N has one or more digits and is below
+/// 2^64 - 1. Every other line is skipped.
 pub fn read_clocks(text: &[u8]) -> Clocks
     ensures member { result.member_clock ≡ last_clock Member text.now }
     ensures event { result.event_clock ≡ last_clock Event text.now }
@@ -92,7 +94,7 @@ pub fn read_clocks(text: &[u8]) -> Clocks
 }
 
 impl KeptEntries {
-    /// Appends the event or the query of `line`, if `events` or `queries` selects it.
+    /// Appends the event in `line` if `events` selects it, or the query in `line` if `queries` selects it.
     fn take(
         &mut self,
         alloc: Global,
@@ -110,14 +112,14 @@ impl KeptEntries {
     }
 }
 
-/// The events of `text` that `events` selects and the queries that `queries` selects, each in order. Returns an
-/// `AllocError` if memory runs out.
+/// Returns the events of `text` that `events` selects and the queries that `queries` selects, both in the order of
+/// their lines. Returns an `AllocError` if memory runs out.
 ///
-/// Any bytes are a text. A line ends with a newline, so bytes after the last newline aren't a line. The line of an
-/// event is `#event TIME NAME PAYLOAD`: the time has one or more digits and a value from 1 to 2^64 - 2. The name and
-/// the payload are in hex, with two digits for each byte, and may be empty. There is exactly one space before each of
-/// the three. The line of a query is `#query TIME ID`, where the time is as before and the ID is below 2^32. Each other
-/// line is skipped.
+/// A text may consist of any bytes. A line ends with a newline, so any bytes after the last newline aren't a line.
+/// The line of an event is `#event TIME NAME PAYLOAD`. The time has one or more digits and a value from 1 to
+/// 2^64 - 2. The name and the payload are in hex, with two digits for each byte, and may be empty. Exactly one space
+/// precedes each of the three. The line of a query is `#query TIME ID`, with the same kind of time and an ID below
+/// 2^32. Every other line is skipped.
 pub fn read_kept(
     alloc: Global,
     text: &[u8],

@@ -1,4 +1,4 @@
-//! The traits of a sink, which is a device that keeps the lines of a snapshot, and the errors of a sink.
+//! Defines the traits of a sink, which is a device that keeps the lines of a snapshot, and the errors of a sink.
 
 ghost use Rattle.std.specs.Prelude.{◌≡◌, ◌==◌, ◌+◌, ◌≤◌, ℕ, [], false, true, length, not, is_ok, OnOk, OnErr, IfSome, IsErrOf};
 ghost use Rattle.std.specs.Option.{option_map};
@@ -9,15 +9,15 @@ use thiserror::Error;
 
 /// The sink failed in an append or a flush.
 ///
-/// It still keeps everything that it kept before, and perhaps a part of what was to be written.
+/// The sink still keeps everything that it kept before, and perhaps a part of the bytes that it should have written.
 #[derive(Clone, Copy, Debug, PartialEq, Eq, Error)]
 #[error("the sink failed")]
 pub struct SinkError;
 
-/// Why a replace was refused.
+/// Why a sink didn't replace its text.
 #[derive(Clone, Copy, Debug, PartialEq, Eq, Error)]
 pub enum ReplaceError {
-    /// Memory ran out. What is durable is unchanged.
+    /// Memory ran out. The durable bytes are unchanged.
     #[error("out of memory")]
     OutOfMemory,
     /// The sink failed. Either the old text or the new one is durable, as a whole, and nothing is buffered.
@@ -37,16 +37,18 @@ pub trait Sink {
     /// How many bytes the sink accepts without allocating memory.
     ghost room: { Self → ℕ };
 
-    /// Makes room for `n` bytes. If memory runs out, the sink keeps what it kept, and may have gained some room.
+    /// Makes room for `n` bytes. If memory runs out, the sink still keeps the same bytes, and may have gained some
+    /// room.
     fn reserve(&mut self, alloc: Global, n: usize) -> Result<(), AllocError>
         ensures room { OnOk result (n ≤ room self.new) }
         ensures device { device self.new ≡ device self.old };
 
-    /// Appends `bytes`, for which there has to be room, to what is buffered. Allocates no memory.
+    /// Appends `bytes` to the sink's buffer, which must have room for them. Allocates no memory.
     ///
-    /// After [`SinkError`] the sink has counted one more failure, unless its count can't rise. It still keeps what it
-    /// kept before, and perhaps a part of what was buffered and of `bytes`. A sink with a plan fails exactly when the
-    /// plan says so; it then keeps exactly what it kept before, and nothing is buffered.
+    /// After [`SinkError`], the sink has counted one more failure, unless its count is already at its maximum. The
+    /// sink still keeps everything that it kept before, and perhaps a part of its buffer and of `bytes`. A sink with
+    /// a plan fails exactly when the plan says so. It then keeps exactly what it kept before, and its buffer is
+    /// empty.
     fn append(&mut self, bytes: &[u8]) -> Result<(), SinkError>
         requires { length bytes.now ≤ room self.old }
         ensures room { room self.old ≤ room self.new + length bytes.now }
@@ -57,7 +59,8 @@ pub trait Sink {
         ensures planned { IfSome (device self.old).plan (λ p. is_ok result ≡ not (p.appends == 1)) }
         ensures called { (device self.new).calls ≡ append_called (device self.old).calls };
 
-    /// Makes what is buffered durable. Allocates no memory. An error leaves what an append of no bytes leaves.
+    /// Makes the buffered bytes durable. Allocates no memory. A failed flush leaves the same bytes in the sink as a
+    /// failed append of no bytes.
     fn flush(&mut self) -> Result<(), SinkError>
         ensures ok { OnOk result (device self.new ≡ flushed (device self.old)) }
         ensures error { OnErr result (Fails (device self.old) (device self.new) []) }
@@ -70,8 +73,8 @@ pub trait Sink {
 /// A sink whose text can be replaced in one step, so that a crash during the step leaves either the old text or the new
 /// one.
 pub trait ReplaceSink: Sink {
-    /// Replaces the text that the sink keeps with `text`, which is durable afterwards. Nothing may be buffered before
-    /// the call.
+    /// Replaces the text that the sink keeps with `text`, which is durable afterwards. The sink's buffer must be
+    /// empty before the call.
     ///
     /// A sink with a plan fails exactly when the plan says so, and then keeps the text that the plan names.
     fn replace(&mut self, alloc: Global, text: &[u8]) -> Result<(), ReplaceError>

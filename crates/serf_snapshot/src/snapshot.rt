@@ -1,5 +1,5 @@
-//! A snapshot: the clock lines of an agent and its lines of kept events, which are written to a sink and flushed
-//! (`snapshot.go`).
+//! A snapshot writes the clock lines of an agent, and the lines of the events that it keeps, to a sink and flushes
+//! them (`snapshot.go`).
 
 ghost use Rattle.std.specs.Prelude.{◌≡◌, ◌<◌, ◌≤◌, ◌-◌, ◌^◌, true, if◌then◌else◌, false, not, is_ok, length, List, ℕ, IfOk, IfErr, IsOk, OnOk, OnErr, IfSome, IsErrOf};
 ghost use Rattle.std.specs.Option.{option_map};
@@ -24,13 +24,13 @@ use std::alloc::{AllocError, Global};
 use std::marker::Model;
 use thiserror::Error;
 
-/// Why a line or a compaction was refused.
+/// Why the snapshot refused a line or a compaction.
 #[derive(Clone, Copy, Debug, PartialEq, Eq, Error)]
 pub enum AppendLineError {
-    /// The sink failed in an earlier call. Nothing has changed.
+    /// The sink failed in an earlier call, so the snapshot is stopped. This call has changed nothing.
     #[error("the snapshot is stopped")]
     Stopped,
-    /// Memory ran out. What is durable and the last lines are unchanged.
+    /// Memory ran out. The durable bytes and the last lines are unchanged.
     #[error("out of memory")]
     OutOfMemory,
     /// The sink failed. The snapshot is stopped, and its last lines are unchanged.
@@ -52,11 +52,11 @@ impl From<AllocError> for AppendLineError {
 /// Why a snapshot couldn't be opened: the torn last line of its text couldn't be ended.
 #[derive(Clone, Copy, Debug, PartialEq, Eq, Error)]
 pub enum SealError {
-    /// Memory ran out before the torn last line was ended. The sink keeps what it kept.
+    /// Memory ran out before the torn last line was ended. The sink still keeps the same bytes.
     #[error("out of memory")]
     OutOfMemory,
-    /// The sink failed when the torn last line was ended. It keeps the text, and perhaps a part of the bytes that end
-    /// the line.
+    /// The sink failed when the torn last line was ended. The sink still keeps the text, and perhaps a part of the
+    /// bytes that end the line.
     #[error("the sink failed")]
     SinkError,
 }
@@ -83,15 +83,16 @@ impl From<SinkError> for SealError {
     }
 }
 
-/// The clock lines of an agent on a sink: the last line of each kind, and whether the sink has failed.
+/// The clock lines of an agent, on a sink. A snapshot knows the last line of each kind, and whether the sink has
+/// failed.
 ///
-/// As long as the snapshot isn't stopped, nothing is buffered in the sink between two calls.
+/// As long as the snapshot isn't stopped, the sink's buffer is empty between two calls.
 #[derive(Drop)]
 pub struct Snapshot<S: Sink> {
     last: Clocks,
     stopped: bool,
-    /// The length of the whole durable text in bytes, and not only of the kept events, as long as the snapshot isn't
-    /// stopped; at most 2^64 - 1.
+    /// The length of the whole durable text in bytes, with the clock lines and the lines of kept events; at most
+    /// 2^64 - 1. The value is valid as long as the snapshot isn't stopped.
     kept: u64,
     sink: S,
 }
@@ -124,7 +125,7 @@ impl<S: Sink> Model for Snapshot<S> {
         × (a.stopped ≡ false → IsLengthOf (durable_of (S.device a.sink)) a.kept) };
 }
 
-/// Appends `line` to `sink` and flushes it, so that it is durable.
+/// Appends `line` to `sink` and flushes it, so that the line is durable.
 fn keep<S: Sink>(sink: &mut S, line: &[u8]) -> Result<(), SinkError>
     requires { length line.now ≤ S.room sink.old }
     ensures ok { OnOk result (S.device sink.new ≡ flushed (appended line.now (S.device sink.old))) }
@@ -137,8 +138,8 @@ fn keep<S: Sink>(sink: &mut S, line: &[u8]) -> Result<(), SinkError>
     sink.flush()
 }
 
-/// If the last line of `text` is torn, ends it so that it never becomes a clock line: appends `#` and a newline to
-/// `sink` and flushes them.
+/// If the last line of `text` is torn, the call appends `#` and a newline to `sink` and flushes them, so that the
+/// torn line never becomes a clock line.
 fn seal<S: Sink>(alloc: Global, text: &[u8], sink: &mut S) -> Result<(), SealError>
     requires { HasText text.now (S.device sink.old) }
     ensures ok { OnOk result (S.device sink.new ≡ opened_device text.now (S.device sink.old)) }
@@ -166,15 +167,16 @@ fn seal<S: Sink>(alloc: Global, text: &[u8], sink: &mut S) -> Result<(), SealErr
 }
 
 impl<S: Sink> Snapshot<S> {
-    /// Opens a snapshot on `text`, which `sink` keeps. If the sink exposes its bytes, they are exactly this text, and
-    /// nothing is buffered.
+    /// Opens a snapshot on `text`, which is the text that `sink` keeps. If the sink exposes its bytes, they must be
+    /// exactly this text, and its buffer must be empty.
     ///
-    /// The last lines are the clocks that the text has. If the last line is torn (it has no newline), `#` and a newline
-    /// are appended and flushed to end it, so that it never becomes a clock line. If the call fails, the error contains
-    /// the sink. If the text is empty or ends in a newline, the call succeeds and allocates no memory.
+    /// The snapshot's last lines are the clocks of the text. If the last line of the text is torn, which means that
+    /// it has no newline, the call appends `#` and a newline and flushes them. So the torn line never becomes a clock
+    /// line. If the call fails, it returns the sink together with the error. If the text is empty or ends in a
+    /// newline, the call succeeds and allocates no memory.
     ///
-    /// A sink with a plan fails exactly when the plan fails that append or that flush. The sink in an error has what is
-    /// left of the plan.
+    /// A sink with a plan fails exactly when the plan makes this append or this flush fail. The sink that is returned
+    /// with an error has the rest of the plan.
     pub fn open(alloc: Global, text: &[u8], sink: S) -> Result<Self, (S, SealError)>
         requires { HasText text.now (S.device sink) }
         ensures ok { IfOk result (λ s. s.snapshot ≡ opened text.now (S.device sink)) }
@@ -231,14 +233,14 @@ impl<S: Sink> Snapshot<S> {
         })
     }
 
-    /// Writes the clock line of `time` if `time` is above that of the last line of its kind, and then `own`, in one
-    /// append and one flush. Both are durable afterwards. `own` is a line for the event, the query or the minimum
-    /// itself, as `write_event_line`, `write_query_line` or `write_min_line` makes it; or it is empty. If `own` isn't
-    /// empty, the number of the clock line has a zero in front. (`snapshot.go`: `processUserEvent`, which leaves the
-    /// flush for later, `processQuery` and `updateClock`.)
+    /// Writes up to two lines in one append and one flush, so that both are durable afterwards: the clock line of
+    /// `time`, if `time` is above the time of the last line of its kind, and then `own`. `own` is the line for the
+    /// event, the query or the minimum itself, as `write_event_line`, `write_query_line` or `write_min_line` makes
+    /// it, or it is empty. If `own` isn't empty, the number of the clock line has a leading zero. (Serf does this in
+    /// `processUserEvent`, which leaves the flush for later, `processQuery` and `updateClock` of `snapshot.go`.)
     ///
     /// If there is nothing to write, the call returns Ok, allocates no memory, and doesn't call the sink. Otherwise
-    /// memory is allocated before the sink is called. After [`AppendLineError::SinkError`] a part of the bytes may be
+    /// it allocates memory before it calls the sink. After [`AppendLineError::SinkError`], a part of the bytes may be
     /// durable, and each later call returns [`AppendLineError::Stopped`].
     pub fn append_line(
         &mut self,
@@ -262,7 +264,8 @@ impl<S: Sink> Snapshot<S> {
         self.write(alloc, kind, last.max(value), bytes.as_slice())
     }
 
-    /// Makes room in the sink, appends `bytes` and flushes them. Afterwards the last line of `kind` is `value`.
+    /// Makes room for `bytes` in the sink, appends them and flushes them. Afterwards the last line of `kind` is
+    /// `value`.
     fn write(
         &mut self,
         alloc: Global,
@@ -288,7 +291,8 @@ impl<S: Sink> Snapshot<S> {
         }
     }
 
-    /// The last line of each kind that was written or read, 0 if there is none. Allocates no memory.
+    /// Returns the time of the last line of each kind that was written or read, or 0 for a kind without a line.
+    /// Allocates no memory.
     pub fn clocks(&self) -> Clocks
         ensures member { result.member_clock ≡ self.now.snapshot.member_clock }
         ensures event { result.event_clock ≡ self.now.snapshot.event_clock }
@@ -298,21 +302,23 @@ impl<S: Sink> Snapshot<S> {
         self.last
     }
 
-    /// Whether the sink has failed, so that each further line and each compaction is refused. Allocates no memory.
+    /// Returns whether the sink has failed. If it has, the snapshot refuses every further line and every compaction.
+    /// Allocates no memory.
     pub fn is_stopped(&self) -> bool
         ensures { result ≡ self.now.snapshot.stopped }
     {
         self.stopped
     }
 
-    /// Whether a compaction is worth doing: the text has more than `limit` bytes, and a compaction would remove at
-    /// least half of them. `lines_length` is the number of bytes of the lines that it would keep in addition to the
-    /// clock lines (0: none). The result is false for a stopped snapshot, which can't be compacted, and at a limit of
-    /// 2^64 - 1. A length above 2^64 - 1 counts as 2^64 - 1.
+    /// Returns whether a compaction is worth doing: the text has more than `limit` bytes, and a compaction would
+    /// remove at least half of them. `lines_length` is the number of bytes of the lines that the compaction would
+    /// keep in addition to the clock lines, or 0 if it would keep none. The result is false if the snapshot is
+    /// stopped, because a stopped snapshot can't be compacted. It is also false if `limit` is 2^64 - 1. A length
+    /// above 2^64 - 1 counts as 2^64 - 1.
     ///
-    /// The snapshot counts the bytes itself: those of the text that it was opened on, of the end of a torn last line,
-    /// and of all lines and compactions since. So the result is also right if the sink doesn't expose its bytes.
-    /// Allocates no memory, and takes the same time however long the text is. (`snapshot.go`, `appendLine`, which
+    /// The snapshot itself counts the bytes of the text that it was opened on, of the seal of a torn last line, and
+    /// of all lines and compactions since then. So the result is also right if the sink doesn't expose its bytes.
+    /// Allocates no memory, and takes the same time for a text of any length. (Serf's `appendLine` in `snapshot.go`
     /// compacts if the file is longer than 128 KiB and also longer than twice the estimated size for its nodes.)
     pub fn should_compact(&self, limit: u64, lines_length: u64) -> bool
         ensures exact { (lines : List ℕ) → self.now.snapshot.stopped ≡ false
@@ -328,7 +334,7 @@ impl<S: Sink> Snapshot<S> {
         !self.stopped && is_worth_replacing(limit, self.kept, new_length)
     }
 
-    /// The sink, for reading. Allocates no memory.
+    /// Returns the sink, for reading only. Allocates no memory.
     pub fn sink(&self) -> &S
         ensures device { S.device result.now ≡ self.now.device }
         ensures durable { durable_of self.now.device ≡ self.now.snapshot.durable }
@@ -340,14 +346,14 @@ impl<S: Sink> Snapshot<S> {
 }
 
 impl<S: ReplaceSink> Snapshot<S> {
-    /// Replaces what the sink keeps with `lines`, followed by the last lines of the member clock, the event clock and
-    /// the query clock, in this order. A kind without a line is left out. `lines` are the `#least` lines and the lines
-    /// of the kept events and queries, or nothing. If `lines` isn't empty, the clock lines of events and of queries
-    /// have a zero in front of their number. The call makes one replace, and never an append or a flush.
+    /// Replaces the sink's text with `lines`, followed by the last lines of the member clock, the event clock and the
+    /// query clock, in this order. A kind without a line is left out. `lines` are the `#least` lines and the lines of
+    /// the kept events and queries, or nothing. If `lines` isn't empty, the clock lines of events and queries have a
+    /// leading zero in their numbers. The call makes one replace, and never an append or a flush.
     ///
-    /// If the snapshot is stopped, the sink isn't called. After [`AppendLineError::SinkError`] either the old text or
-    /// the new one is durable, and the snapshot is stopped. (`snapshot.go`, `compact`, which writes the alive members
-    /// too.)
+    /// If the snapshot is stopped, the sink isn't called. After [`AppendLineError::SinkError`], either the old text
+    /// or the new one is durable, and the snapshot is stopped. (Serf's `compact` in `snapshot.go` also writes the
+    /// alive members.)
     pub fn compact(&mut self, alloc: Global, lines: &[u8]) -> Result<(), AppendLineError>
         // The text is replaced, or the sink has failed. A sink with a plan fails exactly when its plan says so.
         ensures { ReplacesText (text_with (lines_given lines.now) self.old.snapshot)
@@ -360,7 +366,7 @@ impl<S: ReplaceSink> Snapshot<S> {
         self.replace_text(alloc, text.as_slice())
     }
 
-    /// Replaces what the sink keeps with `text`, which has the same last clock lines, in one replace.
+    /// Replaces the sink's text with `text` in one step. Both texts have the same last clock lines.
     fn replace_text(&mut self, alloc: Global, text: &[u8]) -> Result<(), AppendLineError>
         requires runs { self.old.snapshot.stopped ≡ false }
         ensures { ReplacesText text.now self.old self.new result }
@@ -380,21 +386,21 @@ impl<S: ReplaceSink> Snapshot<S> {
 }
 
 impl Snapshot<MemorySink> {
-    /// Makes the sink fail its `n`-th append from now on, or none if `n` is 0. Allocates no memory.
+    /// Makes the sink's `n`-th append from now on fail, or none if `n` is 0. Allocates no memory.
     pub fn fail_append(&mut self, n: u64)
         ensures { self.new ≡ with_new_plan (append_failing n) self.old }
     {
         self.sink.fail_append(n);
     }
 
-    /// Makes the sink fail its `n`-th flush from now on, or none if `n` is 0. Allocates no memory.
+    /// Makes the sink's `n`-th flush from now on fail, or none if `n` is 0. Allocates no memory.
     pub fn fail_flush(&mut self, n: u64)
         ensures { self.new ≡ with_new_plan (flush_failing n) self.old }
     {
         self.sink.fail_flush(n);
     }
 
-    /// Makes the sink fail its `n`-th replace from now on, or none if `n` is 0. The sink then keeps the new text if
+    /// Makes the sink's `n`-th replace from now on fail, or none if `n` is 0. The sink then keeps the new text if
     /// `keeps_new` is true, and the old one otherwise. Allocates no memory.
     pub fn fail_replace(&mut self, n: u64, keeps_new: bool)
         ensures { self.new ≡ with_new_plan (replace_failing n keeps_new) self.old }

@@ -1,4 +1,4 @@
-//! Whether a filter selects an event or a query of a text.
+//! Decides whether a filter selects an event or a query of a text.
 
 ghost use Rattle.std.specs.Prelude.{◌≡◌};
 ghost use Rattle.serf_snapshot.specs.EventLines.{is_event_wanted, is_time_wanted};
@@ -7,14 +7,15 @@ use crate::kept::{EntryFilter, KeptEvent};
 use serf_lamport::Time;
 
 impl EntryFilter {
-    /// Whether the filter selects `time`.
+    /// Returns whether the filter selects `time`.
     pub(crate) fn has_time(self, time: Time) -> bool
         ensures { result ≡ is_time_wanted self time }
     {
         self.from <= time.get() && time.get() < self.below
     }
 
-    /// Whether the filter selects `event`: it selects the event's time, and the event's texts are short enough.
+    /// Returns whether the filter selects `event`. It does if it selects the event's time, and if the name and the
+    /// payload together are short enough.
     pub(crate) fn has_event(self, event: &KeptEvent) -> bool
         ensures { result ≡ is_event_wanted self event.now }
     {

@@ -1,4 +1,4 @@
-//! The bytes of a file in memory, for tests: which of them are on the device, and which a crash can lose.
+//! The bytes of a file in memory, for tests: those that are on the device, and those that a crash can lose.
 
 ghost use Rattle.std.specs.Prelude.{◌≡◌, OnOk, OnErr};
 ghost use Rattle.serf_store.specs.TextFile.{all_of, brought, made_with, on_device, with_more};
@@ -6,11 +6,11 @@ ghost use Rattle.serf_store.specs.TextFile.{all_of, brought, made_with, on_devic
 use std::alloc::AllocError;
 use std::marker::Model;
 
-/// The bytes of a file in memory: first those that are on the device, and then those that aren't.
+/// The bytes of a file in memory: first the bytes that are on the device, and then those that aren't.
 #[derive(Drop)]
 pub struct MemoryBytes {
     bytes: Vec<u8>,
-    /// How many of the bytes are on the device. They are the first ones.
+    /// The number of bytes that are on the device. They are the first ones.
     durable: usize,
 }
 
@@ -30,7 +30,7 @@ impl Model for MemoryBytes {
 }
 
 impl MemoryBytes {
-    /// A file with `bytes`, all of them on the device.
+    /// Returns a file with `bytes`, all of them on the device.
     pub fn kept(bytes: Vec<u8>) -> Self
         ensures { result ≡ on_device bytes.items }
     {
@@ -38,21 +38,21 @@ impl MemoryBytes {
         MemoryBytes { bytes, durable }
     }
 
-    /// A file that was just created with `bytes`, none of them on the device.
+    /// Returns a file that was just created with `bytes`, none of them on the device.
     pub fn made(bytes: Vec<u8>) -> Self
         ensures { result ≡ made_with bytes.items }
     {
         MemoryBytes { bytes, durable: 0 }
     }
 
-    /// All bytes, whether they are on the device or not.
+    /// Returns all bytes, whether they are on the device or not.
     pub fn all(&self) -> &[u8]
         ensures { result.now ≡ all_of self.now }
     {
         &self.bytes
     }
 
-    /// Appends `bytes`, which aren't on the device until `sync`. If memory runs out, nothing changes.
+    /// Appends `bytes`, which are on the device only after the next `sync`. If memory runs out, nothing changes.
     pub fn write(&mut self, bytes: &[u8]) -> Result<(), AllocError>
         ensures ok { OnOk result (self.new ≡ with_more bytes.now self.old) }
         ensures error { OnErr result (self.new ≡ self.old) }

@@ -7,22 +7,23 @@ use std::alloc::AllocError;
 use std::io;
 use thiserror::Error;
 
-/// Why a store was not opened. After the error, this call holds no lock on the file, and the text is as it was.
+/// Why a store was not opened. After the error, this call holds no lock on the file, and the text is as it was
+/// before.
 #[derive(Debug, Drop, Error)]
 pub enum StoreError {
     /// Memory ran out for the text or for the paths.
     #[error("out of memory")]
     OutOfMemory,
-    /// Another store has the file, in this process or in another one, under the same name or under another.
+    /// Another store has the file open, in this process or in another one, under the same name or under another.
     #[error("another agent has this snapshot open")]
     InUse,
-    /// The path can't be resolved to a place for a file: its folder is missing, or its links form a circle.
+    /// The path can't be resolved to a place for a file: its folder is missing, or its links form a loop.
     #[error("can't resolve the path: {0}")]
     Path(io::Error),
     /// The path names something other than a regular file: a folder, a device, or a link that leads nowhere.
     #[error("the path doesn't name a regular file")]
     NotAFile,
-    /// The file can't be opened or created, because it or its folder isn't writable, for example.
+    /// The file can't be opened or created, for example because it or its folder isn't writable.
     #[error("can't open the file: {0}")]
     Open(io::Error),
     /// The file can't be locked.

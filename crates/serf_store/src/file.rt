@@ -1,4 +1,5 @@
-//! The file under a store: what its calls do to the text's file, to the new file next to it, and to the folder.
+//! Defines the file that a store uses. Its calls work on the file with the text, on the new file next to it, and on
+//! the folder of both.
 
 ghost use Rattle.std.specs.Prelude.{◌≡◌, ℕ, [], Option, Some, IfOk, IfSome, OnOk, OnErr};
 ghost use Rattle.std.specs.Option.{option_map};
@@ -10,18 +11,18 @@ use std::io;
 
 /// The file with the text of a snapshot, in its folder.
 ///
-/// Its calls correspond to single steps of the operating system. The store is proved for every file of this kind, and
-/// [`crate::SystemFile`] is the one of the operating system. Clauses about bytes apply to a file that exposes its
-/// bytes, and clauses about a plan to a file that has one. Each call that fails is counted, and its contract says what
-/// it may have left.
+/// Each call corresponds to a single step of the operating system. The store is proved for every file of this kind,
+/// and [`crate::SystemFile`] is the file of the operating system. Clauses about bytes apply to a file that exposes
+/// its bytes, and clauses about a plan to a file that has one. The file records how many calls have failed, and the
+/// contract of each call says what state a failure may leave.
 pub trait TextFile {
-    /// What a crash leaves, and what a replacement has done so far, if the file exposes it.
+    /// The bytes that a crash would leave, and what a replacement has done so far, if the file exposes them.
     ghost kept: { Self → Option Kept };
 
     /// How often a call has failed. The count stays at 2^64 - 1 once it has reached it.
     ghost failures: { Self → ℕ };
 
-    /// Which call from now on fails, 0 if none does, for a file that has a plan.
+    /// For a file that has a plan: which call from now on fails, or 0 if none does.
     ghost plan: { Self → Option ℕ };
 
     /// Reads all bytes of the text.
@@ -33,7 +34,7 @@ pub trait TextFile {
         ensures failed { OnErr result (failures self.new ≡ counted (failures self.old)) }
         ensures planned { GoesAsPlanned (plan self.old) (plan self.new) result };
 
-    /// Writes `bytes` after the text. A crash may lose them until they are synced to the device.
+    /// Writes `bytes` after the text. A crash may lose the bytes until they are synced to the device.
     fn write(&mut self, bytes: &[u8]) -> io::Result<()>
         requires { IsSettled (kept self.old) }
         ensures ok { OnOk result (kept self.new
@@ -74,7 +75,8 @@ pub trait TextFile {
 
     /// Renames the new file, whose bytes are on the device, to the name of the text's file.
     ///
-    /// Until the folder is synced to the device, a crash may leave either of the two under this name.
+    /// Until the folder is synced to the device, a crash may leave either the old file or the new one under this
+    /// name.
     fn rename_new_file(&mut self) -> io::Result<()>
         requires { IsReady (kept self.old) }
         ensures ok { OnOk result (kept self.new ≡ option_map renamed (kept self.old)) }

@@ -1,10 +1,10 @@
-//! A snapshot's text in a real file, which only one agent has at a time.
+//! Keeps a snapshot's text in a real file, which only one agent can have open at a time.
 //!
 //! Use [`FileStore`] as the sink of an agent in a program. It appends lines and syncs them to the device, and it
-//! replaces the text in one step, so that a crash at any moment leaves either the old text or the new one, as a whole.
-//! It is proved for every [`TextFile`]. [`SystemFile`] is a file of the operating system, with a lock that only one
-//! store has at a time and that a crash releases. [`MemoryFile`] is a file in memory, which fails in the call that the
-//! caller chose.
+//! replaces the text in one step, so that a crash at any moment leaves either the old text or the new one, as a
+//! whole. It is proved for every [`TextFile`]. [`SystemFile`] is a file of the operating system. Only one store at a
+//! time holds the file's lock, and a crash releases it. [`MemoryFile`] is a file in memory, which fails in the call
+//! that the caller chose.
 #![tactic(auto)]
 
 mod bytes;

@@ -1,4 +1,4 @@
-//! How a file is locked, so that only one opening has it at a time.
+//! Locks a file, so that only one opening of it holds the lock at a time.
 
 use std::fs::{File, TryLockError};
 

@@ -1,4 +1,4 @@
-//! A text's file in memory, for tests.
+//! A file in memory that holds a snapshot's text, for tests.
 
 ghost use Rattle.std.specs.Prelude.{◌≡◌, ◌≢◌, ◌-◌, IfErr, IsErr, OnErr, OnOk, None, Some, false};
 ghost use Rattle.std.specs.IoError.{error_kind};
@@ -12,19 +12,20 @@ use std::io;
 use std::io::ErrorKind;
 use std::marker::Model;
 
-/// A text's file in memory. It exposes its bytes, and fails in the call that the caller chose, or if memory runs out.
+/// A file in memory that holds a snapshot's text. It exposes its bytes, and fails in the call that the caller chose, or
+/// if memory runs out.
 ///
-/// A call that fails has changed nothing.
+/// A call that fails changes nothing.
 #[derive(Drop)]
 pub struct MemoryFile {
     alloc: Global,
     text: MemoryBytes,
     new_file: Option<MemoryBytes>,
-    /// Whether the new file has the text's name, though not yet on the device.
+    /// Whether the new file already has the text's name, although the name isn't on the device yet.
     is_renamed: bool,
     /// Whether the name of the text's file is on the device.
     is_named: bool,
-    /// Which call from now on fails, 0 if none does.
+    /// If this is `n`, the `n`-th call from now on fails; if it is 0, none fails.
     failing: u64,
     failures: u64,
 }
@@ -47,23 +48,23 @@ impl Model for MemoryFile {
 }
 
 impl MemoryFile {
-    /// A file with `text`, all of it on the device. Its `n`-th call fails and no other; if `n` is 0, none fails.
+    /// Returns a file with `text`, all of it on the device. Only the `n`-th call fails, or none if `n` is 0.
     pub fn new(alloc: Global, text: Vec<u8>, n: u64) -> Self
         ensures { result ≡ fresh_file text.items n }
     {
         MemoryFile::of(alloc, MemoryBytes::kept(text), true, n)
     }
 
-    /// A file that was just created and written, as a crash can leave it: neither `text` nor its name is on the device.
-    /// Its `n`-th call fails and no other; if `n` is 0, none fails.
+    /// Returns a file that was just created and written, in a state that a crash can leave: neither `text` nor the
+    /// file's name is on the device. Only the `n`-th call fails, or none if `n` is 0.
     pub fn just_made(alloc: Global, text: Vec<u8>, n: u64) -> Self
         ensures { result ≡ made_file text.items n }
     {
         MemoryFile::of(alloc, MemoryBytes::made(text), false, n)
     }
 
-    /// A file with the bytes `text` and no new file next to it. Its name is on the device if `is_named` is true. Its
-    /// `n`-th call fails.
+    /// Returns a file with the bytes `text` and no new file next to it. The file's name is on the device if
+    /// `is_named` is true. The `n`-th call fails.
     fn of(alloc: Global, text: MemoryBytes, is_named: bool, n: u64) -> Self
         ensures text { result.kept.text ≡ text }
         ensures new_file { result.kept.new_file ≡ None }
@@ -83,7 +84,7 @@ impl MemoryFile {
         }
     }
 
-    /// Starts a call, and counts down to the one that fails. Returns an error if this is the one.
+    /// Starts a call, and counts down to the call that fails. Returns an error if this is that call.
     fn begin(&mut self) -> io::Result<()>
         ensures kept { self.new.kept ≡ self.old.kept }
         ensures unfailed { OnOk result (self.new.failures ≡ self.old.failures) }

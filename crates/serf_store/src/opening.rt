@@ -1,4 +1,4 @@
-//! The steps from a path to its file: follow links, open the file, lock it, and remove what a crash left.
+//! Opens the file at a path: follows links, opens and locks the file, and removes the new text that a crash left.
 
 ghost use Rattle.std.specs.Prelude.{◌≡◌, ◌≢◌, ◌↔◌, IfErr, IfOk, IsErrOf, IsOk};
 ghost use Rattle.std.specs.IoError.{error_kind};
@@ -15,8 +15,8 @@ use std::io::ErrorKind;
 use std::os::unix::fs::{MetadataExt, OpenOptionsExt};
 use std::path::{Path, PathBuf};
 
-/// How many times an opening is attempted. It starts again if the file was replaced after it was opened and before it
-/// was locked.
+/// How many times the store tries to open and lock a file. It tries again if the file was replaced after it was
+/// opened and before it was locked.
 const TRIES: usize = 100;
 
 /// Resolves the links of `path`. The file itself doesn't have to exist.
@@ -30,7 +30,7 @@ pub fn real_path<R: Files>(alloc: Global, files: &R, path: &str) -> Result<PathB
     }
 }
 
-/// Resolves the links of `path` if its file doesn't exist. Its folder has to exist.
+/// Resolves the links of `path` if there is no file yet. The folder has to exist.
 fn real_place<R: Files>(alloc: Global, files: &R, path: &str) -> Result<PathBuf, StoreError>
     ensures { IfErr result IsOfPath }
 {
@@ -44,7 +44,7 @@ fn real_place<R: Files>(alloc: Global, files: &R, path: &str) -> Result<PathBuf,
     Ok(real)
 }
 
-/// The store's error for `error`, which the system returned for a path.
+/// Returns the store's error for `error`, which the system returned for a path.
 fn path_error(error: io::Error) -> StoreError
     ensures memory { error_kind error ≡ ErrorKind.OutOfMemory → result ≡ StoreError.OutOfMemory }
     ensures other { error_kind error ≢ ErrorKind.OutOfMemory → result ≡ StoreError.Path error }
@@ -56,8 +56,8 @@ fn path_error(error: io::Error) -> StoreError
     }
 }
 
-/// Opens the file at `path` or creates it, and locks it. If the file was replaced before it was locked, the opening
-/// starts again. Returns `InUse` if this happened [`TRIES`] times, or if another opening has the lock.
+/// Opens the file at `path` or creates it, and locks it. If the file was replaced before it was locked, the call
+/// tries again. Returns `InUse` if this happened [`TRIES`] times, or if another opening has the lock.
 pub fn open_locked<R: Files>(files: &R, path: &str) -> Result<R::File, StoreError>
 where
     R::File: LockFile,
@@ -74,15 +74,15 @@ where
     Err(StoreError::InUse)
 }
 
-/// Returns an error if something at `path` isn't a regular file. This is called before the file is opened.
+/// Returns an error if there is something other than a regular file at `path`. Call this before the file is opened.
 fn refuse_other<R: Files>(files: &R, path: &str) -> Result<(), StoreError>
     ensures { IfErr result IsOfFile }
 {
     plain(files.symlink_metadata(path))
 }
 
-/// Returns an error if `named`, which describes what is at a path, isn't a regular file. If nothing is there, there is
-/// no error.
+/// Returns an error if the file that `named` describes isn't a regular file. If there is nothing at the path, this
+/// isn't an error.
 fn plain(named: io::Result<Metadata>) -> Result<(), StoreError>
     ensures file { IfOk named (λ m. IsOk result ↔ IsFile (file_type m)) }
     ensures other { IfOk named (λ _. IfErr result (λ f. f ≡ StoreError.NotAFile)) }
@@ -98,8 +98,8 @@ fn plain(named: io::Result<Metadata>) -> Result<(), StoreError>
     }
 }
 
-/// Opens the file with the text at `path`, or creates it, for reading and appending. Only the owner may open a file
-/// that is created.
+/// Opens the file with the text at `path` for reading and appending, or creates it. Only the owner may open a file
+/// that was created in this way.
 fn open_text<R: Files>(files: &R, path: &str) -> Result<R::File, StoreError>
     ensures { IfErr result IsOfOpen }
 {
@@ -119,7 +119,7 @@ fn lock<F: LockFile>(file: &F) -> Result<(), StoreError>
     locked(file.lock_now())
 }
 
-/// What the store returns for the result of a lock: `InUse` if another opening has the lock.
+/// Turns the result of a lock into the store's result, which is `InUse` if another opening has the lock.
 fn locked(answer: Result<(), TryLockError>) -> Result<(), StoreError>
     ensures { result ≡ locked_as answer }
 {
@@ -130,7 +130,7 @@ fn locked(answer: Result<(), TryLockError>) -> Result<(), StoreError>
     }
 }
 
-/// Whether `path` still names `file`, and not through a link.
+/// Returns whether `path` still names `file` directly, and not through a link.
 fn is_current<R: Files>(files: &R, path: &str, file: &R::File) -> io::Result<bool> {
     let own = file.metadata()?;
     match files.symlink_metadata(path) {

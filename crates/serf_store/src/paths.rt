@@ -1,4 +1,4 @@
-//! The paths of a text's file: its own, that of the new file next to it, and that of their folder.
+//! The paths of the file with a text, of the new file next to it, and of the folder of both.
 
 ghost use Rattle.std.specs.Prelude.{◌≡◌, ◌++◌, IfOk, string_bytes};
 ghost use Rattle.serf_store.specs.Paths.{new_file_of, folder_of};
@@ -6,10 +6,10 @@ ghost use Rattle.serf_store.specs.Paths.{new_file_of, folder_of};
 use std::alloc::{AllocError, Global};
 use std::path::Path;
 
-/// The suffix that the path of the new file adds to the path of the text's file.
+/// The suffix that the path of the new file adds to the path of the file with the text.
 const NEW_SUFFIX: &str = ".new";
 
-/// The paths of a text's file.
+/// The paths that a store uses for a text.
 #[derive(Drop)]
 pub struct Paths {
     /// The file with the text.
@@ -21,7 +21,7 @@ pub struct Paths {
 }
 
 impl Paths {
-    /// The paths of the text's file at `path`.
+    /// Returns the paths for a text whose file is at `path`.
     pub fn of(alloc: Global, path: &str) -> Result<Self, AllocError>
         ensures file { IfOk result (λ p. string_bytes p.file ≡ path.now) }
         ensures new_file { IfOk result (λ p. string_bytes p.new_file ≡ new_file_of path.now) }
@@ -35,7 +35,7 @@ impl Paths {
     }
 }
 
-/// `text` followed by `more`, in a new string.
+/// Returns `text` followed by `more`, in a new string.
 fn joined(alloc: Global, text: &str, more: &str) -> Result<String, AllocError>
     ensures { IfOk result (λ s. string_bytes s ≡ text.now ++ more.now) }
 {
@@ -44,7 +44,7 @@ fn joined(alloc: Global, text: &str, more: &str) -> Result<String, AllocError>
     Ok(whole)
 }
 
-/// The folder of the file at `path`: its parent, or the current folder if the path has no parent.
+/// Returns the folder of the file at `path`: its parent, or the current folder if the path has no parent.
 pub fn folder_of(path: &str) -> &str
     ensures { result.now ≡ folder_of path.now }
 {

@@ -1,4 +1,5 @@
-//! The sink over a text's file: it appends lines, syncs them to the device, and replaces the text in one step.
+//! The sink that keeps a text in a file: it appends lines, syncs them to the device, and replaces the text in one
+//! step.
 
 ghost use Rattle.std.specs.Prelude.{◌≡◌, ◌≢◌, ◌⊎◌, ◌^◌, IfErr, IfOk, IfSome, None, OnOk, OnErr};
 ghost use Rattle.std.specs.Option.{option_map};
@@ -22,10 +23,11 @@ use std::marker::Model;
 /// A snapshot's text in a file, which the store appends to, syncs to the device, and replaces in one step.
 ///
 /// If an append returns Ok, its bytes were written. If a flush returns Ok, every appended byte is on the device. If a
-/// replace returns Ok, the new text is on the device under the name of the file. The new text is written to a file next
-/// to the old one and synced before it takes over the name, and then the folder is synced. So a crash at any moment
-/// leaves either the old text or the new one, as a whole. A store has failed if and only if a call of its file has.
-/// From then on each call fails, is counted, and leaves the file alone, until the text is opened again.
+/// replace returns Ok, the new text is on the device under the name of the file. The store writes the new text to a
+/// file next to the old one, syncs it, renames it to the name of the old one, and then syncs the folder. So a crash
+/// at any moment leaves either the old text or the new one, as a whole. A store has failed if and only if a call of
+/// its file has failed. From then on, each call fails, is counted, and leaves the file alone, until the text is
+/// opened again.
 #[derive(Drop)]
 pub struct FileStore<F: TextFile> {
     file: F,
@@ -51,11 +53,10 @@ impl<F: TextFile> Model for FileStore<F> {
 }
 
 impl<F: TextFile + Drop> FileStore<F> {
-    /// A store over `file`, which hasn't failed, and the text of the file. All of the text is on the device, and so is
-    /// the name of the file.
+    /// Returns a store over `file`, together with the text of the file. No call of `file` may have failed before. If
+    /// the call succeeds, the whole text and the name of the file are on the device.
     ///
-    /// Each error names the step that failed. The steps are to read the text, to sync it to the device, and to sync the
-    /// folder.
+    /// Each error names the step that failed: reading the text, syncing it to the device, or syncing the folder.
     pub fn over(alloc: Global, file: F) -> Result<(Self, Vec<u8>), StoreError>
         requires unfailed { F.failures file ≡ 0 }
         requires settled { IsSettled (F.kept file) }
@@ -86,10 +87,10 @@ where
 {
     /// Opens the file at `path` or creates it, locks it, and reads its text.
     ///
-    /// If `path` is a link, it is followed to its file once, in this call. A new text that a crash left next to the
-    /// file is removed, because it never took the place of the file. Pass the text to
-    /// [`serf_snapshot::Snapshot::open`], or to the agent that opens on it. Each error names what failed. The text is
-    /// then as it was, and nothing is locked.
+    /// If `path` is a link, the call follows it to its file once. If a crash left a new text next to the file, the
+    /// call removes it, because it never took the place of the file. Pass the text to
+    /// [`serf_snapshot::Snapshot::open`], or to the agent that opens on it. Each error names the step that failed.
+    /// After an error, the text is as it was before, and the call holds no lock.
     pub fn open(alloc: Global, files: &'a R, path: &str) -> Result<(Self, Vec<u8>), StoreError>
         ensures device { IfOk result (λ r. r.0 ≡ file_device None 0 0 0 0) }
         ensures error { IfErr result (λ f. IsOfOpening f ⊎ IsOfText f) }
@@ -98,7 +99,7 @@ where
     }
 }
 
-/// Replaces the text of `file` with `text` on the device in one step, by a new file that takes over the name.
+/// Replaces the text of `file` with `text` on the device in one step: a new file with `text` takes over the name.
 fn put_in_place<F: TextFile>(file: &mut F, text: &[u8]) -> io::Result<()>
     requires { IsSettled (F.kept file.old) }
     ensures ok { OnOk result (F.kept file.new
@@ -114,7 +115,7 @@ fn put_in_place<F: TextFile>(file: &mut F, text: &[u8]) -> io::Result<()>
     file.sync_folder()
 }
 
-/// The store's error for `error`, which was returned when the text was read.
+/// Returns the store's error for `error`, which a read of the text returned.
 fn read_error(error: io::Error) -> StoreError
     ensures memory { error_kind error ≡ ErrorKind.OutOfMemory → result ≡ StoreError.OutOfMemory }
     ensures other { error_kind error ≢ ErrorKind.OutOfMemory → result ≡ StoreError.Read error }

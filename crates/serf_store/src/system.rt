@@ -1,4 +1,5 @@
-//! A text's file of the operating system. Each call makes calls of the system, and is counted if it fails.
+//! A file of the operating system that holds a snapshot's text. Each call makes system calls, and is counted if it
+//! fails.
 
 ghost use Rattle.std.specs.Prelude.{◌≡◌, IfErr, IfOk, None, OnOk, OnErr};
 ghost use Rattle.serf_snapshot.specs.Device.{counted};
@@ -15,13 +16,16 @@ use std::io;
 use std::io::{ErrorKind, Read, Write};
 use std::os::unix::fs::{OpenOptionsExt, PermissionsExt};
 
-/// A text's file of the operating system, opened for reading and appending, and locked: no other opening has the lock.
+/// A file of the operating system that holds a snapshot's text. It is open for reading and appending, and locked
+/// against every other opening.
 ///
-/// The lock is on the file itself, like that of the stores for other languages (`flock`). It applies to every name of
-/// the file and to every program that requests it, and the system releases it when the process ends. In a replacement,
-/// the file that takes over the text's name is locked before it does so, and gets the permissions of the old file.
+/// The lock is on the file itself, like the lock of the stores for other languages (`flock`). It applies to every
+/// name of the file and to every program that requests it, and the system releases it when the process ends. In a
+/// replacement, the new file is locked before it takes over the text's name, and it gets the permissions of the old
+/// file.
 ///
-/// No contract says what the system keeps: this file exposes no bytes, and counts the calls that failed.
+/// No contract says what the operating system keeps: this file exposes no bytes, and only counts the calls that
+/// failed.
 #[derive(Drop)]
 pub struct SystemFile<'a, R: Files> {
     files: &'a R,
@@ -37,7 +41,8 @@ where
 {
     ghost use Rattle.serf_store.specs.SystemFile.{system_failures};
 
-    /// Opens the file at `path` or creates it, and locks it. Removes a new text that a crash left next to it.
+    /// Opens the file at `path` or creates it, and locks it. If a crash left a new text next to the file, the call
+    /// removes it.
     pub fn open(alloc: Global, files: &'a R, path: &str) -> Result<Self, StoreError>
         ensures unfailed { IfOk result (λ s. system_failures s ≡ 0) }
         ensures error { IfErr result IsOfOpening }
@@ -57,8 +62,8 @@ where
 }
 
 impl<'a, R: Files> SystemFile<'a, R> {
-    /// Renames the new file, which is `file`, to the name of the text's file, and writes to it from then on. If the
-    /// rename fails, later writes still go to the old file.
+    /// Renames the new file, which is `file`, to the name of the text's file. Later writes go to the new file, or
+    /// still to the old one if the rename fails.
     fn take_name(&mut self, file: R::File) -> io::Result<()>
         ensures ok { OnOk result (self.new.file ≡ file) }
         ensures error { OnErr result (self.new.file ≡ self.old.file) }
@@ -101,7 +106,7 @@ fn bring_all<F: Write + OpenFile>(file: &mut F) -> io::Result<()> {
     file.sync_all()
 }
 
-/// Creates a new file at `path` that only its owner may open. Fails if there is a file already.
+/// Creates a new file at `path` that only its owner may open. Fails if there is already a file at `path`.
 fn make_new<R: Files>(files: &R, path: &str) -> io::Result<R::File> {
     OpenOptions::new()
         .read(true)
@@ -117,8 +122,8 @@ fn copy_rights<F: OpenFile>(from: &F, to: &F) -> io::Result<()> {
     to.set_permissions(Permissions::from_mode(rights))
 }
 
-/// Creates a new file at `path` with `text`, locked, and with the permissions of `old`. Removes an older file at `path`
-/// first.
+/// Creates a new file at `path` that contains `text`, is locked, and has the permissions of `old`. Removes an older
+/// file at `path` first.
 fn make_new_file<R: Files>(files: &R, path: &str, old: &R::File, text: &[u8]) -> io::Result<R::File>
 where
     R::File: LockFile,
@@ -139,7 +144,7 @@ fn sync_folder<R: Files>(files: &R, folder: &str) -> io::Result<()> {
         .sync_all()
 }
 
-/// The error if there is no new file.
+/// Returns the error for a call that needs a new file when there is none.
 fn no_new_file() -> io::Error {
     io::Error::from(ErrorKind::NotFound)
 }

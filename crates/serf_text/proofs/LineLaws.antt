@@ -78,17 +78,17 @@ glue-line : (l : List ℕ) (ls others : List (List ℕ)) → HasLine ls → l �
 unfolding glue
 glue-line l ls others h = ap (λ k. l ∷ glue k others) h.is ∙ ap (λ k. glue (l ∷ k) others) (sym h.is)
 
-cut-more : (b : Bool) (x : ℕ) (ls others : List (List ℕ)) → HasLine ls → HasLine others
+splits-more : (b : Bool) (x : ℕ) (ls others : List (List ℕ)) → HasLine ls → HasLine others
     → cond b ([] ∷ glue ls others) (onto_first x (glue ls others)) ≡ glue (cond b ([] ∷ ls) (onto_first x ls)) others
-cut-more true x ls others h o = glue-line [] ls others h
-cut-more false x ls others h o =
+splits-more true x ls others h o = glue-line [] ls others h
+splits-more false x ls others h o =
     ap (λ k. onto_first x (glue k others)) h.is ∙ glue-first x h.head h.tail others o ∙ ap (λ k. glue (onto_first x k) others) (sym h.is)
 
-cut-append : (xs ys : List ℕ) → lines_of (xs ++ ys) ≡ glue (lines_of xs) (lines_of ys)
+splits-append : (xs ys : List ℕ) → lines_of (xs ++ ys) ≡ glue (lines_of xs) (lines_of ys)
 unfolding glue
-cut-append [] ys = sym (onto-nothing ys)
-cut-append (x ∷ xs) ys =
-    ap (λ ls. cond (x == 10) ([] ∷ ls) (onto_first x ls)) (cut-append xs ys) ∙ cut-more (x == 10) x (lines_of xs) (lines_of ys) (has-line xs) (has-line ys)
+splits-append [] ys = sym (onto-nothing ys)
+splits-append (x ∷ xs) ys =
+    ap (λ ls. cond (x == 10) ([] ∷ ls) (onto_first x ls)) (splits-append xs ys) ∙ splits-more (x == 10) x (lines_of xs) (lines_of ys) (has-line xs) (has-line ys)
 
 glue-last : (lines : List (List ℕ)) (held : List ℕ) (others : List (List ℕ)) → glue (lines ++ held ∷ []) others ≡ lines ++ onto held others
 unfolding glue
@@ -98,7 +98,7 @@ glue-last (l ∷ n ∷ ls) held others = ap (λ k. l ∷ k) (glue-last (n ∷ ls
 
 -- more of a text whose last line is incomplete
 pub lines-more : (bytes more : List ℕ) (lines : List (List ℕ)) (held : List ℕ) → lines_of bytes ≡ lines ++ held ∷ [] → lines_of (bytes ++ more) ≡ lines ++ onto held (lines_of more)
-lines-more bytes more lines held h = cut-append bytes more ∙ ap (λ ls. glue ls (lines_of more)) h ∙ glue-last lines held (lines_of more)
+lines-more bytes more lines held h = splits-append bytes more ∙ ap (λ ls. glue ls (lines_of more)) h ∙ glue-last lines held (lines_of more)
 
 -- the next complete line
 pub next-line : (all lines : List (List ℕ)) (held line rest next new : List ℕ) → all ≡ lines ++ onto held (lines_of rest) → lines_of rest ≡ line ∷ lines_of next → new ≡ []

@@ -25,10 +25,10 @@ front-written first now new text waiting h f = (length text + f.0, rw (front-fol
 -- the lines that were processed, and those that were not
 pub stopped-at-write : {J F : Type 0} (told : J → List (List ℕ) → List ℕ → Type 0) (refuses : List (List ℕ) → List ℕ → F → Type 0) (job : J) (number : ℕ) (waiting : List ℕ) (all lines left : List (List ℕ)) (first now new : Option (List ℕ))
     → all ≡ lines ++ left → Reached told job number waiting lines first now → AppendsFront now new waiting → StopsAt told refuses WriteError all first new
-stopped-at-write told refuses job number waiting all lines left first now new cut h f = record {
+stopped-at-write told refuses job number waiting all lines left first now new splits h f = record {
   lines = lines;
   left = left;
-  cut = cut;
+  splits = splits;
   job = job;
   text = h.text ++ waiting;
   tells = h.tells;
@@ -41,7 +41,7 @@ pub waits-at-write : {J F : Type 0} (told : J → List (List ℕ) → List ℕ �
 waits-at-write told refuses error all waiting first now new h f = record {
   lines = h.lines;
   left = h.line ∷ h.more;
-  cut = h.cut;
+  splits = h.splits;
   job = h.job;
   text = h.text ++ waiting;
   tells = h.tells;
@@ -57,7 +57,7 @@ stopped-at-line told refuses WriteError all waiting first now new h w = absurd h
 stopped-at-line told refuses (BadLine number error) all waiting first now new h w = record {
   lines = h.lines;
   left = h.line ∷ h.more;
-  cut = h.cut;
+  splits = h.splits;
   job = h.job;
   text = h.text ++ waiting;
   tells = h.tells;
@@ -67,7 +67,7 @@ stopped-at-line told refuses (BadLine number error) all waiting first now new h 
 stopped-at-line told refuses (LineTooLong number) all waiting first now new h w = record {
   lines = h.lines;
   left = h.line ∷ h.more;
-  cut = h.cut;
+  splits = h.splits;
   job = h.job;
   text = h.text ++ waiting;
   tells = h.tells;
@@ -77,7 +77,7 @@ stopped-at-line told refuses (LineTooLong number) all waiting first now new h w 
 stopped-at-line told refuses OutOfMemory all waiting first now new h w = record {
   lines = h.lines;
   left = h.line ∷ h.more;
-  cut = h.cut;
+  splits = h.splits;
   job = h.job;
   text = h.text ++ waiting;
   tells = h.tells;
@@ -91,7 +91,7 @@ still-stopped : {J F : Type 0} (told : J → List (List ℕ) → List ℕ → Ty
 still-stopped told refuses all first now new s none = record {
   lines = s.lines;
   left = s.left;
-  cut = s.cut;
+  splits = s.splits;
   job = s.job;
   text = s.text;
   tells = s.tells;
@@ -126,8 +126,8 @@ either B (Err e) a b f k = k e b
 -- the last line was processed
 pub done-at-end : {J : Type 0} (told : J → List (List ℕ) → List ℕ → Type 0) (job : J) (number : ℕ) (waiting : List ℕ) (all lines : List (List ℕ)) (held : List ℕ) (first now new : Option (List ℕ))
     → all ≡ lines ++ held ∷ [] → Reached told job number waiting (lines ++ (held ++ []) ∷ []) first now → Appends now new waiting → TellsAll told job all first new
-done-at-end told job number waiting all lines held first now new cut h w =
-    let same : lines ++ (held ++ []) ∷ [] ≡ all = ap (λ l. lines ++ l ∷ []) (append-nil held) ∙ sym cut in record {
+done-at-end told job number waiting all lines held first now new splits h w =
+    let same : lines ++ (held ++ []) ∷ [] ≡ all = ap (λ l. lines ++ l ∷ []) (append-nil held) ∙ sym splits in record {
       text = h.text ++ waiting;
       tells = subst (λ (ls : List (List ℕ)). told job ls (h.text ++ waiting)) same h.tells;
       written = Appends-trans first now new h.text waiting h.appended w;
@@ -136,11 +136,11 @@ done-at-end told job number waiting all lines held first now new cut h w =
 -- the last line has an error
 pub waits-at-end : {J F : Type 0} (told : J → List (List ℕ) → List ℕ → Type 0) (refuses : List (List ℕ) → List ℕ → F → Type 0) (job : J) (error : StreamError F) (number : ℕ) (waiting after : List ℕ) (all lines : List (List ℕ)) (held : List ℕ) (first now : Option (List ℕ))
     → all ≡ lines ++ held ∷ [] → Reached told job number waiting lines first now → after ≡ waiting → IsLineError refuses error lines (held ++ []) → WaitsFor told refuses error all after first now
-waits-at-end told refuses job error number waiting after all lines held first now cut h same is = record {
+waits-at-end told refuses job error number waiting after all lines held first now splits h same is = record {
   lines = lines;
   line = held ++ [];
   more = [];
-  cut = cut ∙ ap (λ l. lines ++ l ∷ []) (sym (append-nil held));
+  splits = splits ∙ ap (λ l. lines ++ l ∷ []) (sym (append-nil held));
   job = job;
   text = h.text;
   appended = h.appended;
@@ -167,7 +167,7 @@ pub stopped-at-read : {J F : Type 0} (told : J → List (List ℕ) → List ℕ 
 stopped-at-read told refuses job held number waiting bytes first now h none = record {
   lines = h.lines;
   left = held ∷ [];
-  cut = h.cut;
+  splits = h.splits;
   job = job;
   text = h.reached.text;
   tells = subst (told job h.lines) (ap (λ w. h.reached.text ++ w) none ∙ append-nil h.reached.text) h.reached.tells;
@@ -187,4 +187,4 @@ answered-whole follows answer job all first now h = record { done = h.tells.0; t
 
 pub answered-front : {J F : Type 0} (follows : J → List (List ℕ) → Type 0) (answer : List (List ℕ) → List ℕ → Result (List ℕ) F) (error : StreamError F) (all : List (List ℕ)) (first now : Option (List ℕ))
     → StopsAt (answers_told follows answer) (answers_error answer) error all first now → IsStopped answer error all first now
-answered-front follows answer error all first now h = record { lines = h.lines; left = h.left; cut = h.cut; text = h.text; answered = h.tells.1; written = h.written; cause = h.cause }
+answered-front follows answer error all first now h = record { lines = h.lines; left = h.left; splits = h.splits; text = h.text; answered = h.tells.1; written = h.written; cause = h.cause }

@@ -40,7 +40,7 @@ WritesUpTo OutOfMemory first now text = Appends first now text
 pub record IsStopped {F : Type 0} (answer : List (List ℕ) → List ℕ → Result (List ℕ) F) (error : StreamError F) (all : List (List ℕ)) (first now : Option (List ℕ)) : Type 0 where
   pub lines : List (List ℕ)
   pub left : List (List ℕ)
-  pub cut : all ≡ lines ++ left
+  pub splits : all ≡ lines ++ left
   pub text : List ℕ
   pub answered : text_after answer [] lines ≡ Ok text
   pub written : WritesUpTo error first now text
@@ -58,7 +58,7 @@ pub record IsDone {J F : Type 0} (follows : J → List (List ℕ) → Type 0) (a
 pub record StopsAt {J F : Type 0} (told : J → List (List ℕ) → List ℕ → Type 0) (refuses : List (List ℕ) → List ℕ → F → Type 0) (error : StreamError F) (all : List (List ℕ)) (first now : Option (List ℕ)) : Type 0 where
   pub lines : List (List ℕ)
   pub left : List (List ℕ)
-  pub cut : all ≡ lines ++ left
+  pub splits : all ≡ lines ++ left
   pub job : J
   pub text : List ℕ
   pub tells : told job lines text
@@ -106,7 +106,7 @@ IsHoldError _ lines line = ⊥
 -- These bytes were read. The complete lines in them were processed, and what follows the last of these lines is held.
 pub record HasRead {J : Type 0} (told : J → List (List ℕ) → List ℕ → Type 0) (job : J) (held : List ℕ) (number : ℕ) (waiting bytes : List ℕ) (first now : Option (List ℕ)) : Type 0 where
   pub lines : List (List ℕ)
-  pub cut : lines_of bytes ≡ lines ++ held ∷ []
+  pub splits : lines_of bytes ≡ lines ++ held ∷ []
   pub reached : Reached told job number waiting lines first now
 
 -- Some of the lines were processed, what the job reported for them was written or waits, and the next line has this
@@ -115,7 +115,7 @@ pub record WaitsFor {J F : Type 0} (told : J → List (List ℕ) → List ℕ �
   pub lines : List (List ℕ)
   pub line : List ℕ
   pub more : List (List ℕ)
-  pub cut : all ≡ lines ++ line ∷ more
+  pub splits : all ≡ lines ++ line ∷ more
   pub job : J
   pub text : List ℕ
   pub appended : Appends first now text

@@ -1,4 +1,4 @@
-//! What is wrong with a line of a schedule, and how it prints.
+//! The reasons why a line of a schedule is wrong, and how they are printed.
 
 ghost use Rattle.std.specs.Prelude.{Some};
 ghost use Rattle.serf_text.specs.CauseText.{cause_text};
@@ -6,18 +6,18 @@ ghost use Rattle.serf_text.specs.CauseText.{cause_text};
 use std::alloc::AllocError;
 use std::fmt;
 
-/// What is wrong with a line. The causes are checked in this order. A cause prints as its name, and `BadWord` also
-/// prints the place of the word.
+/// The reason why a line is wrong. The causes are checked in this order. A cause is printed as its name, and
+/// `BadWord` also with the place of the word.
 #[derive(Clone, Copy, Debug, PartialEq, Eq)]
 pub enum Cause {
     /// The first word of the line isn't a command.
     UnknownWord,
-    /// An agent line comes after an action line.
+    /// An agent line follows an action line.
     LateAgent,
     /// The line has more or fewer words than its command allows.
     WordCount,
-    /// The word at this place isn't allowed there. It is the first word of the line that isn't allowed at its place, and
-    /// the command is at place 1.
+    /// The word at this place isn't allowed there, and all words before it are allowed at their places. The command
+    /// is at place 1.
     BadWord(u64),
     /// The name or a number of an agent is out of range.
     BadConfig,
@@ -43,9 +43,9 @@ impl fmt::Display for Cause {
 /// Why a line was not read.
 #[derive(Clone, Copy, Debug, PartialEq, Eq)]
 pub enum LineError {
-    /// The line is wrong, for this cause.
+    /// The line is wrong for this reason.
     Bad(Cause),
-    /// Memory ran out for what the line contains.
+    /// Memory ran out for the content of the line.
     OutOfMemory,
 }
 

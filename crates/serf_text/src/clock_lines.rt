@@ -1,4 +1,4 @@
-//! The text of a snapshot's clocks: one line for each kind of clock.
+//! Writes the text of a snapshot's clocks, which has one line for each kind of clock.
 ghost use Rattle.std.specs.Prelude.{◌≡◌, ◌++◌, OnOk, IfOk};
 ghost use Rattle.serf_text.specs.ClocksText.{clock_entries, clock_entry, clock_word};
 
@@ -6,7 +6,7 @@ use crate::put::write_number_line;
 use serf_snapshot::{ClockKind, Clocks};
 use std::alloc::{AllocError, Global};
 
-/// The word with which the line of the clock `kind` begins.
+/// Returns the word with which the line of the clock `kind` begins.
 fn word(kind: ClockKind) -> &'static [u8]
     ensures { result.now ≡ clock_word kind }
 {
@@ -25,7 +25,8 @@ fn write_clock(out: &mut Vec<u8>, kind: ClockKind, time: u64) -> Result<(), Allo
     write_number_line(out, word(kind), time)
 }
 
-/// The text of a snapshot's clocks, one line for each: `clock N`, `event-clock N` and `query-clock N`.
+/// Returns the text of a snapshot's clocks. It has one line for each clock: `clock N`, `event-clock N` and
+/// `query-clock N`.
 ///
 /// Returns an `AllocError` only if memory runs out for the lines.
 pub fn clocks_text(alloc: Global, clocks: Clocks) -> Result<Vec<u8>, AllocError>

@@ -19,15 +19,15 @@ pub enum InputError {
     /// A read failed.
     #[error("a read failed")]
     ReadError,
-    /// There are more than 16,777,216 bytes to read. 16,777,217 of them were read.
+    /// The reader has more than 16,777,216 bytes. Exactly 16,777,217 of them were read.
     #[error("the input is too long")]
     ReadTooLong,
     #[error("out of memory")]
     OutOfMemory,
 }
 
-/// Reads everything that `reader` has left, at most 16,777,216 bytes. A read that returns no bytes means the end of the
-/// input, so every read before that returns at least one byte.
+/// Reads everything that `reader` has left, at most 16,777,216 bytes. If a read returns no bytes, the input has
+/// ended.
 pub fn read_input<R: Read>(alloc: Global, reader: &mut R) -> Result<Vec<u8>, InputError>
     ensures short { IfOk result (λ v. length v.items ≤ MAX_SCHEDULE_BYTES) }
     ensures all { IfOk result (λ v. IfSome (R.remaining reader.old) (λ bytes. v.items ≡ bytes)) }

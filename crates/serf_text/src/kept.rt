@@ -1,5 +1,6 @@
-//! What is kept of a stream between two reads, and how a line is answered after its newline was read. In clauses,
-//! `lines` are the lines that were processed, `first` is what the writer had at first, and `now` is what it has now.
+//! Keeps the state of a stream between two reads, and answers a line when its newline has been read. In clauses,
+//! `lines` are the lines that were processed, `first` is the text that the writer contained at first, and `now` is
+//! the text that it contains now.
 
 ghost use Rattle.std.specs.Prelude.{◌≡◌, ◌++◌, ◌∷◌, ◌≤◌, [], List, ℕ, Option, Result, Ok, length, IfErr, OnErr, OnOk};
 ghost use Rattle.serf_text.specs.Lines.{number_after};
@@ -12,16 +13,16 @@ use std::alloc::Global;
 /// The maximum length of a line, in bytes.
 pub const MAX_LINE_BYTES: usize = 16_777_216;
 
-/// What is kept of a stream between two reads.
+/// The state of a stream that is kept between two reads.
 #[derive(Drop)]
 pub(crate) struct Kept {
-    /// The bytes of the last line so far. Its newline hasn't been read yet.
+    /// The bytes of the current line that were read so far. The newline of this line hasn't been read yet.
     pub(crate) held: Vec<u8>,
     /// The number of the line in `held`, counted from 1. It stays at 2^64 - 1 once it has reached it.
     pub(crate) number: u64,
     /// The answers to earlier lines that haven't been written yet.
     pub(crate) waiting: Vec<u8>,
-    /// A buffer for the answer to one line, reused for each line.
+    /// A buffer for the answer to one line. It is reused for each line.
     pub(crate) text: Vec<u8>,
 }
 
@@ -51,8 +52,8 @@ fn read_one<J: LineReporter>(
     }
 }
 
-/// Lets `job` answer `line`, which is line number `number` of the stream. Appends the answer to `waiting`, and adds one
-/// to `number`. `text` is a buffer for the answer. After an error, `waiting` is unchanged.
+/// Lets `job` answer `line`, which is line number `number` of the stream. Appends the answer to `waiting`, and adds
+/// one to `number`. `text` is a buffer for the answer. After an error, `waiting` is unchanged.
 fn answer_line<J: LineReporter>(
     alloc: Global,
     job: &mut J,
@@ -86,8 +87,8 @@ fn answer_line<J: LineReporter>(
     }
 }
 
-/// Appends `piece` to `held`, the beginning of line number `number`. Returns `LineTooLong` if the line is then too
-/// long.
+/// Appends `piece` to `held`, which is the beginning of line number `number`. Returns `LineTooLong` if this makes the
+/// line too long.
 pub(crate) fn hold<F>(number: u64, held: &mut Vec<u8>, piece: &[u8]) -> Result<(), StreamError<F>>
     ensures done { OnOk result (held.new.items ≡ held.old.items ++ piece.now) }
     ensures stopped { (lines : List (List ℕ))
@@ -104,7 +105,7 @@ pub(crate) fn hold<F>(number: u64, held: &mut Vec<u8>, piece: &[u8]) -> Result<(
 }
 
 impl Kept {
-    /// What is kept before anything is read, at the beginning of line 1. Allocates no memory.
+    /// Returns the state before anything is read, at the beginning of line 1. Allocates no memory.
     pub(crate) fn new(alloc: Global) -> Kept
         ensures held { result.held.items ≡ [] }
         ensures waiting { result.waiting.items ≡ [] }
@@ -119,7 +120,7 @@ impl Kept {
     }
 }
 
-/// Answers the line whose beginning is in `kept` and whose end is `piece`. The answer is kept until it is written.
+/// Answers the line that begins in `kept` and ends with `piece`. The answer is kept until it is written.
 pub(crate) fn end_line<J: LineReporter>(
     alloc: Global,
     job: &mut J,

@@ -1,6 +1,6 @@
-//! Texts: the words of a line and what they mean, numbers, bytes in hex, quoted texts, templates whose blanks are
-//! filled, the texts of packets' messages, of errors and of a snapshot's clocks, whole inputs and outputs, and answers to
-//! the lines of a text or of a stream.
+//! Reads and writes texts: the words of a line and their meaning, numbers, bytes in hex, quoted texts, and templates
+//! with blanks to fill. Also prints the messages of packets, errors and the clocks of a snapshot, reads whole inputs,
+//! writes whole outputs, and answers the lines of a text or of a stream.
 //!
 //! Nothing in this crate depends on agents, or on what they do in a cluster.
 #![tactic(auto)]
@@ -39,6 +39,6 @@ pub use template::{TemplatePart, write_template};
 pub use whole::report_text;
 pub use wire_words::{WireWords, write_wire_error};
 pub use words::{
-    FIXED_WORDS, bytes_at, choice, choice_at, cut_words, hex_bytes, is_word, number, number_at,
-    number_from_to, split_once, take_words, word_at,
+    FIXED_WORDS, bytes_at, choice, choice_at, hex_bytes, is_word, number, number_at,
+    number_from_to, split_once, split_words, split_words_into, word_at,
 };

@@ -1,4 +1,4 @@
-//! Jobs that process the lines of a stream one by one. A [`LineJob`] has exactly one answer to each line, and a
+//! Jobs process the lines of a stream one by one. A [`LineJob`] has exactly one answer to each line, and a
 //! [`LineReporter`] reports a text for each line.
 
 use crate::stream_error::StreamLineError;
@@ -12,15 +12,15 @@ pub trait LineJob {
     ghost use Rattle.std.specs.Prelude.{◌≡◌, ◌++◌, ◌∷◌, [], List, ℕ, Result, Ok, Err, OnOk, IfErr};
     ghost use Rattle.serf_text.specs.Lines.{IsSaid};
 
-    /// What can be wrong with a line.
+    /// The error with which the job refuses a line.
     type OwnError: Drop;
 
     ghost follows: { Self → List (List ℕ) → Type 0 };
 
     ghost answer: { List (List ℕ) → List ℕ → Result (List ℕ) Self.OwnError };
 
-    /// Answers `line`, which is the next line, and puts the answer into `text`, which is empty before. After an error,
-    /// `text` may contain anything, and the job must not be used again.
+    /// Answers `line`, which is the next line, and puts the answer into `text`. The caller passes an empty `text`.
+    /// After an error, `text` may contain anything, and the job must not be used again.
     fn read_line(
         &mut self,
         alloc: Global,
@@ -36,22 +36,22 @@ pub trait LineJob {
 
 /// Processes lines, one after another, and reports a text for each.
 ///
-/// In contracts, `told job lines text` means that `job` has processed exactly `lines` and reported `text` for them, and
-/// `refuses lines line error` means that `line` after `lines` is refused with `error`. The lines alone determine the
-/// answers of a [`LineJob`], but a job of this kind may choose among several texts.
+/// In contracts, `told job lines text` means that `job` has processed exactly `lines` and reported `text` for them.
+/// `refuses lines line error` means that the job refuses `line` with `error` after it has processed `lines`. The
+/// answers of a [`LineJob`] depend only on the lines, but a job of this kind may choose among several texts.
 pub trait LineReporter {
     ghost use Rattle.std.specs.Prelude.{◌≡◌, ◌++◌, ◌∷◌, [], List, ℕ, OnOk, IfErr};
     ghost use Rattle.serf_text.specs.Streams.{IsRefused};
 
-    /// What can be wrong with a line.
+    /// The error with which the job refuses a line.
     type OwnError: Drop;
 
     ghost told: { Self → List (List ℕ) → List ℕ → Type 0 };
 
     ghost refuses: { List (List ℕ) → List ℕ → Self.OwnError → Type 0 };
 
-    /// Processes `line`, which is the next line, and puts the text for it into `text`, which is empty before. After an
-    /// error, `text` may contain anything, and the job must not be used again.
+    /// Processes `line`, which is the next line, and puts the text for it into `text`. The caller passes an empty
+    /// `text`. After an error, `text` may contain anything, and the job must not be used again.
     fn report_line(
         &mut self,
         alloc: Global,
@@ -65,7 +65,7 @@ pub trait LineReporter {
             → IfErr result (IsRefused refuses lines line.now) };
 }
 
-/// A job that answers lines reports the answer to each line.
+/// Every job that answers lines is also a reporter, which reports the answer to each line.
 impl<J: LineJob> LineReporter for J {
     ghost use Rattle.serf_text.specs.Streams.{answers_error, answers_told};
 

@@ -1,5 +1,6 @@
-//! The text of a packet's message: a line for its type and one for each field, with Serf's names. Each `write_..`
-//! appends lines to `out`. After an `AllocError`, which means that memory ran out, `out` may have a part of them.
+//! Writes the text of a packet's message: a line for its type and one line for each field, with Serf's names. Each
+//! `write_..` function appends lines to `out`. If memory runs out, it returns an `AllocError`, and `out` may then
+//! contain a part of the lines.
 ghost use Rattle.std.specs.Prelude.{◌≡◌, ◌++◌, OnOk, IfOk, Ok, Err};
 ghost use Rattle.std.specs.List.{flat_map};
 ghost use Rattle.serf_wire.specs.declared.error.WireError.{WireError as DeclaredError};
@@ -27,7 +28,7 @@ use thiserror::Error;
 /// Why a packet couldn't be turned into a text.
 #[derive(Clone, Copy, Debug, PartialEq, Eq, Error)]
 pub enum DecodeTextError {
-    /// The packet isn't a message. This is its first error.
+    /// The packet isn't a message. This is the packet's first error.
     #[error("the packet is not a Serf message: {0}")]
     Refused(WireWords),
     /// Memory ran out for the text.
@@ -35,7 +36,8 @@ pub enum DecodeTextError {
     OutOfMemory,
 }
 
-/// Appends the lines `LTime` and `ID`: the time and the ID of a query, or of the query that a response answers.
+/// Appends the lines `LTime` and `ID`. They contain the time and the ID of a query, or of the query that a response
+/// answers.
 #[tactic(auto, unfolding(crate::specs::MessageText::identity_lines))]
 fn write_identity(out: &mut Vec<u8>, time: u64, id: u32) -> Result<(), AllocError>
     ensures { OnOk result (out.new.items ≡ out.old.items ++ identity_lines time id) }
@@ -44,10 +46,10 @@ fn write_identity(out: &mut Vec<u8>, time: u64, id: u32) -> Result<(), AllocErro
     write_number_line(out, b"ID", u64::from(id))
 }
 
-/// Appends the lines `Addr`, `Port` and `SourceNode` of the query `asked`: the address for its answers, and the node
-/// that fired it.
+/// Appends the lines `Addr`, `Port` and `SourceNode` of the query `asked`. They contain the address for its answers,
+/// and the node that fired it.
 #[tactic(auto, unfolding(crate::specs::MessageText::asker_lines))]
-fn write_asker(out: &mut Vec<u8>, asked: &Query) -> Result<(), AllocError>
+fn write_origin(out: &mut Vec<u8>, asked: &Query) -> Result<(), AllocError>
     ensures { OnOk result (out.new.items ≡ out.old.items
         ++ asker_lines asked.now.addr.now asked.now.port asked.now.source.now) }
 {
@@ -56,7 +58,7 @@ fn write_asker(out: &mut Vec<u8>, asked: &Query) -> Result<(), AllocError>
     write_hex_line(out, b"SourceNode", asked.source)
 }
 
-/// Appends the line `RelayFactor`: how many nodes should relay an answer.
+/// Appends the line `RelayFactor`, which contains the number of nodes that should relay an answer.
 #[tactic(auto, unfolding(crate::specs::MessageText::relay_line))]
 fn write_relay(out: &mut Vec<u8>, relay_factor: u8) -> Result<(), AllocError>
     ensures { OnOk result (out.new.items ≡ out.old.items ++ relay_line relay_factor) }
@@ -104,7 +106,7 @@ fn write_content(out: &mut Vec<u8>, name: &[u8], payload: &[u8]) -> Result<(), A
     write_hex_line(out, b"Payload", payload)
 }
 
-/// Appends a line for each of `texts`: the word `name` and the text in hex.
+/// Appends a line for each of `texts`. Each line contains the word `name` and the text in hex.
 fn write_hex_lines(out: &mut Vec<u8>, name: &[u8], texts: Texts) -> Result<(), AllocError>
     ensures { OnOk result (out.new.items ≡ out.old.items
         ++ flat_map (hex_line name.now) (texts_left texts.entry)) }
@@ -115,7 +117,7 @@ fn write_hex_lines(out: &mut Vec<u8>, name: &[u8], texts: Texts) -> Result<(), A
     Ok(())
 }
 
-/// Appends the line `status`: a member's name in hex and the time of its status.
+/// Appends the line `status`, which contains a member's name in hex and the time of the member's status.
 #[tactic(auto, unfolding(crate::specs::MessageText::status_line, crate::specs::TextParts::with_number))]
 fn write_status_line(out: &mut Vec<u8>, status: StatusTime) -> Result<(), AllocError>
     ensures { OnOk result (out.new.items ≡ out.old.items ++ status_line (status_of status.entry)) }
@@ -125,7 +127,8 @@ fn write_status_line(out: &mut Vec<u8>, status: StatusTime) -> Result<(), AllocE
     out.extend_from_slice(b"\n")
 }
 
-/// Appends a line `status` for each member in `status`: its name in hex and the time of its status.
+/// Appends a line `status` for each member in `status`. It contains the member's name in hex and the time of the
+/// member's status.
 fn write_status_lines(out: &mut Vec<u8>, status: StatusTimes) -> Result<(), AllocError>
     ensures { OnOk result (out.new.items ≡ out.old.items
         ++ flat_map status_line (status_left status.entry)) }
@@ -136,9 +139,9 @@ fn write_status_lines(out: &mut Vec<u8>, status: StatusTimes) -> Result<(), Allo
     Ok(())
 }
 
-/// Appends the lines of the push/pull `state` that come before its event clock: the member clock (`LTime`), the status
-/// time of each member (`status`), and each member that left (`left`). After an `AllocError`, which means that memory
-/// ran out, `out` may have a prefix of them.
+/// Appends those lines of the push/pull `state` that precede its event clock: the member clock (`LTime`), the status
+/// time of each member (`status`), and each member that left (`left`). If memory runs out, the call returns an
+/// `AllocError`, and `out` may then end in a part of these lines.
 #[tactic(auto, unfolding(crate::specs::MessageText::member_lines))]
 pub fn write_members(out: &mut Vec<u8>, state: &PushPull) -> Result<(), AllocError>
     ensures { OnOk result (out.new.items ≡ out.old.items ++ member_lines state.now.member_clock
@@ -149,7 +152,7 @@ pub fn write_members(out: &mut Vec<u8>, state: &PushPull) -> Result<(), AllocErr
     write_hex_lines(out, b"left", state.left)
 }
 
-/// Appends the line `event`: the name and the payload of an event in a slot, both in hex.
+/// Appends the line `event`, which contains the name and the payload of an event in a slot, both in hex.
 #[tactic(auto, unfolding(crate::specs::MessageText::event_line, crate::specs::TextParts::with_hex))]
 fn write_event_line(out: &mut Vec<u8>, event: EventView) -> Result<(), AllocError>
     ensures { OnOk result (out.new.items ≡ out.old.items
@@ -171,8 +174,9 @@ fn write_event_lines(out: &mut Vec<u8>, events: EventViews) -> Result<(), AllocE
     Ok(())
 }
 
-/// Appends the lines of `slot`: its number `number` in a push/pull, and then `nil`, or its time and a line for each
-/// event. After an `AllocError`, which means that memory ran out, `out` may have a prefix of them.
+/// Appends the lines of `slot`. The first line contains `number`, the slot's number in the push/pull, and then `nil`
+/// or the slot's time. A line for each event follows. If memory runs out, the call returns an `AllocError`, and `out`
+/// may then end in a part of these lines.
 #[tactic(auto, unfolding(crate::specs::MessageText::slot_lines))]
 pub fn write_slot(out: &mut Vec<u8>, number: u64, slot: &SlotView) -> Result<(), AllocError>
     ensures { OnOk result (out.new.items ≡ out.old.items
@@ -196,7 +200,7 @@ pub fn write_slot(out: &mut Vec<u8>, number: u64, slot: &SlotView) -> Result<(),
     }
 }
 
-/// Appends the lines of `slots`, which are numbered from 0.
+/// Appends the lines of `slots`. The slots are numbered from 0.
 fn write_slots(out: &mut Vec<u8>, slots: SlotViews) -> Result<(), AllocError>
     ensures { OnOk result (out.new.items ≡ out.old.items
         ++ slots_lines 0 (slots_left slots.entry)) }
@@ -209,8 +213,8 @@ fn write_slots(out: &mut Vec<u8>, slots: SlotViews) -> Result<(), AllocError>
     Ok(())
 }
 
-/// Appends the line `EventLTime`, for an event clock with the value `time`, and the lines of the event buffer's
-/// `slots`.
+/// Appends the line `EventLTime`, which contains the value `time` of the event clock, and then the lines of the event
+/// buffer's `slots`.
 #[tactic(auto, unfolding(crate::specs::MessageText::buffer_lines))]
 fn write_buffer(out: &mut Vec<u8>, time: u64, slots: SlotViews) -> Result<(), AllocError>
     ensures { OnOk result (out.new.items ≡ out.old.items
@@ -220,7 +224,7 @@ fn write_buffer(out: &mut Vec<u8>, time: u64, slots: SlotViews) -> Result<(), Al
     write_slots(out, slots)
 }
 
-/// Appends the first line of a response or an ack: `queryResponse`.
+/// Appends `queryResponse`, the first line of a response or an ack.
 #[tactic(auto, unfolding(crate::specs::MessageText::response_name))]
 fn write_response_name(out: &mut Vec<u8>) -> Result<(), AllocError>
     ensures { OnOk result (out.new.items ≡ out.old.items ++ response_name) }
@@ -239,7 +243,7 @@ fn write_user_event(out: &mut Vec<u8>, event: &UserEvent) -> Result<(), AllocErr
     write_flag_line(out, b"CC", event.coalesce)
 }
 
-/// Appends the lines of the query `asked` that come before its filters.
+/// Appends those lines of the query `asked` that precede its filters.
 #[tactic(auto, unfolding(crate::specs::MessageText::query_head))]
 fn write_query_head(out: &mut Vec<u8>, asked: &Query) -> Result<(), AllocError>
     ensures { OnOk result (out.new.items ≡ out.old.items ++ query_head asked.now.time asked.now.id
@@ -247,7 +251,7 @@ fn write_query_head(out: &mut Vec<u8>, asked: &Query) -> Result<(), AllocError>
 {
     out.extend_from_slice(b"query\n")?;
     write_identity(out, asked.time.get(), asked.id)?;
-    write_asker(out, asked)
+    write_origin(out, asked)
 }
 
 /// Appends all lines of the query `asked`.
@@ -271,7 +275,7 @@ fn write_response(out: &mut Vec<u8>, response: &QueryResponse) -> Result<(), All
     write_answer(out, response)
 }
 
-/// Appends the lines of the push/pull `state` that come before its query clock.
+/// Appends those lines of the push/pull `state` that precede its query clock.
 #[tactic(auto, unfolding(crate::specs::MessageText::push_pull_head))]
 fn write_push_pull_head(out: &mut Vec<u8>, state: &PushPull) -> Result<(), AllocError>
     ensures { OnOk result (out.new.items ≡ out.old.items ++ push_pull_head state.now.member_clock
@@ -292,8 +296,8 @@ fn write_push_pull(out: &mut Vec<u8>, state: &PushPull) -> Result<(), AllocError
     write_number_line(out, b"QueryLTime", state.query_clock)
 }
 
-/// Appends all lines of `message`. After an `AllocError`, which means that memory ran out, `out` may have a prefix of
-/// them.
+/// Appends all lines of `message`. If memory runs out, the call returns an `AllocError`, and `out` may then end in a
+/// part of these lines.
 pub fn write_message(out: &mut Vec<u8>, message: &Message) -> Result<(), AllocError>
     ensures { OnOk result (out.new.items ≡ out.old.items ++ message_text (message_of message.now)) }
 {
@@ -306,7 +310,7 @@ pub fn write_message(out: &mut Vec<u8>, message: &Message) -> Result<(), AllocEr
     }
 }
 
-/// The text of `message`, which consists of all its lines.
+/// Returns the text of `message`, which consists of all lines of the message.
 fn message_text_of(alloc: Global, message: &Message) -> Result<Vec<u8>, AllocError>
     ensures { IfOk result (λ text. text.items ≡ message_text (message_of message.now)) }
 {
@@ -315,25 +319,27 @@ fn message_text_of(alloc: Global, message: &Message) -> Result<Vec<u8>, AllocErr
     Ok(out)
 }
 
-/// The text of the message in `packet`: Serf's name for its type, and then a line for each field, with Serf's names.
+/// Returns the text of the message in `packet`: Serf's name for its type, and then a line for each field, with Serf's
+/// names.
 ///
-/// Texts and bytes are in lower-case hex, or `-` if they are empty. Numbers are in decimal, and a timeout has its sign.
-/// There is a separate line for each filter. The slots of a push/pull are numbered from 0, and the events of each held
-/// slot follow its line. The text of a type that isn't read is `foreign` and its number.
+/// Texts and bytes are in lower-case hex, or `-` if they are empty. Numbers are in decimal, and a timeout has its
+/// sign. Each filter has a separate line. The slots of a push/pull are numbered from 0, and the lines of a slot's
+/// events follow the slot's own line. If `decode` doesn't read messages of this type, the text is `foreign` and the
+/// number of the type.
 ///
-/// Returns `Refused` with the first error if and only if the packet doesn't spell a message; this allocates no memory.
-/// Returns `OutOfMemory` only if the packet spells a message.
+/// Returns `Refused` with the packet's first error if and only if the packet doesn't spell a message. This allocates
+/// no memory. Returns `OutOfMemory` only if the packet spells a message.
 pub fn decode_text(alloc: Global, packet: &[u8]) -> Result<Vec<u8>, DecodeTextError>
     // If a packet spells a message, the result is the text of this message.
     ensures text { (m : Meaning) → Spells m packet.now
         → IfOk result (λ text. text.items ≡ message_text m) }
-    // If a packet doesn't spell a message, it is refused with its first error,
+    // If a packet doesn't spell a message, it is refused with its first error.
     ensures refused { (f : DeclaredError) → IsFirstError packet.now f
         → result ≡ Err (Refused (record { error = f })) }
-    // and no other packet is refused.
+    // No other packet is refused.
     ensures only_refused { (w : Words) → result ≡ Err (Refused w)
         → IsFirstError packet.now w.error }
-    // The same, in terms of what the packet decodes to.
+    // The same clauses, in terms of the result of decoding the packet.
     ensures exact { IfOk result (λ text. text_or_error (decoded packet.now) ≡ Ok text.items) }
     ensures exact_refused { (f : DeclaredError) → decoded packet.now ≡ Err f
         → result ≡ Err (Refused (record { error = f })) }

@@ -1,6 +1,6 @@
-//! What can fill a blank of a template, besides what a crate adds to this.
+//! Defines what can fill a blank of a template. Other crates can add their own types.
 
-/// What fills a blank of a template.
+/// A text or a number that fills a blank of a template.
 #[derive(Clone, Copy)]
 pub enum Part<'a> {
     /// These bytes, unchanged.
@@ -9,7 +9,7 @@ pub enum Part<'a> {
     Number(u64),
     /// These bytes in lower-case hex, or a dash if there are none.
     Hex(&'a [u8]),
-    /// These bytes between quotes, or if there are too many, their beginning and their number.
+    /// These bytes between quotes. If there are too many, only the first bytes and the number of bytes are shown.
     Quoted(&'a [u8]),
     /// All of these bytes between quotes.
     WholeQuoted(&'a [u8]),

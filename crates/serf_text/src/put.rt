@@ -1,4 +1,4 @@
-//! Appends parts of printed lines to `out`, and writes a whole text.
+//! Appends parts of printed lines to `out`, and writes whole texts.
 
 ghost use Rattle.std.specs.Prelude.{◌≡◌, ◌++◌, OnErr, OnOk, decimal};
 ghost use Rattle.std.specs.Fmt.{signed_decimal};
@@ -39,20 +39,20 @@ pub fn write_hex(out: &mut Vec<u8>, bytes: &[u8]) -> Result<(), AllocError>
     out.resize(from.saturating_add(bytes.len().saturating_mul(2)), 0)?;
     match hex::encode_to_slice(bytes, &mut out[from..]) {
         Ok(()) => Ok(()),
-        // (the hex needs two bytes for each of `bytes`, and there are exactly as many after `from`)
+        // (the hex needs two bytes for each of `bytes`, and `out` has exactly as many after `from`)
         Err(_) => unreachable!(),
     }
 }
 
-/// The text of `flag`: `1` for true and `0` for false. Allocates no memory.
+/// Returns the text of `flag`: `1` for true and `0` for false. Allocates no memory.
 pub fn flag(flag: bool) -> &'static [u8]
     ensures { result.now ≡ flag_text flag }
 {
     if flag { b"1" } else { b"0" }
 }
 
-/// Appends `text`, a space and `n` in decimal. After an `AllocError`, which means that memory ran out, `out` may have a
-/// prefix of them.
+/// Appends `text`, a space and `n` in decimal. If memory runs out, the call returns an `AllocError`, and `out` may
+/// then end in a part of this text.
 #[tactic(auto, unfolding(crate::specs::TextParts::with_number))]
 pub fn write_with_number(out: &mut Vec<u8>, text: &[u8], n: u64) -> Result<(), AllocError>
     ensures { OnOk result (out.new.items ≡ out.old.items ++ with_number text.now n) }
@@ -78,8 +78,8 @@ pub(crate) fn write_with_numbers(
     write_number(out, n)
 }
 
-/// Appends `text`, a space and `bytes` in hex. After an `AllocError`, which means that memory ran out, `out` may have a
-/// prefix of them.
+/// Appends `text`, a space and `bytes` in hex. If memory runs out, the call returns an `AllocError`, and `out` may
+/// then end in a part of this text.
 #[tactic(auto, unfolding(crate::specs::TextParts::with_hex))]
 pub fn write_with_hex(out: &mut Vec<u8>, text: &[u8], bytes: &[u8]) -> Result<(), AllocError>
     ensures { OnOk result (out.new.items ≡ out.old.items ++ with_hex text.now bytes.now) }
@@ -89,8 +89,8 @@ pub fn write_with_hex(out: &mut Vec<u8>, text: &[u8], bytes: &[u8]) -> Result<()
     write_hex(out, bytes)
 }
 
-/// Appends a line: `name`, a space and `n` in decimal. After an `AllocError`, which means that memory ran out, `out`
-/// may have a prefix of the line.
+/// Appends a line: `name`, a space and `n` in decimal. If memory runs out, the call returns an `AllocError`, and
+/// `out` may then end in a part of the line.
 #[tactic(auto, unfolding(crate::specs::TextParts::number_line))]
 pub fn write_number_line(out: &mut Vec<u8>, name: &[u8], n: u64) -> Result<(), AllocError>
     ensures { OnOk result (out.new.items ≡ out.old.items ++ number_line name.now n) }
@@ -130,13 +130,13 @@ pub(crate) fn write_flag_line(out: &mut Vec<u8>, name: &[u8], value: bool) -> Re
     out.extend_from_slice(b"\n")
 }
 
-/// Why a text was not written: a write failed or wrote no bytes, or a flush failed.
+/// A text was not written completely, because a write failed or wrote no bytes, or because a flush failed.
 #[derive(Clone, Copy, Debug, PartialEq, Eq, Error)]
 #[error("a write failed")]
 pub struct WriteError;
 
-/// Writes all of `text` to `writer`, and flushes it. After a `WriteError`, a prefix of `text` was written. Allocates no
-/// memory.
+/// Writes all of `text` to `writer`, and flushes `writer`. After a `WriteError`, a prefix of `text` has been written,
+/// which may be empty or all of it. Allocates no memory.
 pub fn write_output<W: Write>(writer: &mut W, text: &[u8]) -> Result<(), WriteError>
     ensures done { OnOk result (Appends (W.contents writer.old) (W.contents writer.new) text.now) }
     ensures front { OnErr result

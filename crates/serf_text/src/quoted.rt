@@ -1,4 +1,4 @@
-//! Writes texts between quotes, and texts with each byte that isn't printable ASCII shown in another way.
+//! Writes texts between quotes, and texts in which each byte that isn't printable ASCII is shown in another way.
 
 ghost use Rattle.std.specs.Prelude.{◌≡◌, ◌<◌, ◌++◌, length, OnOk};
 ghost use Rattle.std.specs.List.{flat_map, list_all};
@@ -10,7 +10,7 @@ use std::alloc::AllocError;
 /// The maximum length, in bytes, of a text that is shown in full.
 const WHOLE: usize = 64;
 
-/// The number of bytes that are shown of a longer text.
+/// The number of bytes that are shown of a text that is too long to be shown in full.
 const FRONT: usize = 32;
 
 /// Returns whether a byte is printable ASCII.
@@ -20,7 +20,7 @@ fn is_printable(byte: u8) -> bool
     32 <= byte && byte <= 126
 }
 
-/// Appends a byte if it is printable, and otherwise `\x` and its two hex digits.
+/// Appends a byte if it is printable. Otherwise appends `\x` and the byte's two hex digits.
 #[tactic(auto, unfolding(crate::specs::Quoted::byte_text))]
 fn write_byte(out: &mut Vec<u8>, byte: u8) -> Result<(), AllocError>
     ensures { OnOk result (out.new.items ≡ out.old.items ++ byte_text byte) }
@@ -39,7 +39,8 @@ fn are_printable(bytes: &[u8]) -> bool
     bytes.iter().all(|byte| is_printable(*byte))
 }
 
-/// Appends `text`, with each byte that isn't printable escaped. A text that needs no escaping is appended at once.
+/// Appends `text`, with each byte that isn't printable escaped. A text that needs no escaping is appended in one
+/// step.
 pub fn write_printable(out: &mut Vec<u8>, text: &[u8]) -> Result<(), AllocError>
     ensures { OnOk result (out.new.items ≡ out.old.items ++ flat_map byte_text text.now) }
 {
@@ -52,7 +53,7 @@ pub fn write_printable(out: &mut Vec<u8>, text: &[u8]) -> Result<(), AllocError>
     Ok(())
 }
 
-/// Appends a byte of a quoted text. A quote and a backslash become `\xNN`, as bytes do that aren't printable.
+/// Appends a byte of a quoted text. A quote, a backslash or a byte that isn't printable is written as `\xNN`.
 #[tactic(auto, unfolding(crate::specs::Quoted::quoted_byte))]
 fn write_quoted_byte(out: &mut Vec<u8>, byte: u8) -> Result<(), AllocError>
     ensures { OnOk result (out.new.items ≡ out.old.items ++ quoted_byte byte) }
@@ -65,21 +66,22 @@ fn write_quoted_byte(out: &mut Vec<u8>, byte: u8) -> Result<(), AllocError>
     }
 }
 
-/// Returns whether a byte is unchanged in a quoted text.
+/// Returns whether a byte is left unchanged in a quoted text.
 fn is_plain(byte: u8) -> bool
     ensures { result ≡ is_plain byte }
 {
     is_printable(byte) && byte != b'"' && byte != b'\\'
 }
 
-/// Returns whether each of `bytes` is unchanged in a quoted text: it is printable, and neither a quote nor a backslash.
+/// Returns whether each of `bytes` is left unchanged in a quoted text: it is printable, and neither a quote nor a
+/// backslash.
 fn are_plain(bytes: &[u8]) -> bool
     ensures { result ≡ list_all is_plain bytes.now }
 {
     bytes.iter().all(|byte| is_plain(*byte))
 }
 
-/// Appends the bytes of a quoted text, escaped if necessary. Bytes that need no escaping are appended at once.
+/// Appends the bytes of a quoted text, escaped if necessary. Bytes that need no escaping are appended in one step.
 fn write_quoted_bytes(out: &mut Vec<u8>, bytes: &[u8]) -> Result<(), AllocError>
     ensures { OnOk result (out.new.items ≡ out.old.items ++ flat_map quoted_byte bytes.now) }
 {
@@ -102,7 +104,8 @@ pub(crate) fn write_whole_quoted(out: &mut Vec<u8>, text: &[u8]) -> Result<(), A
     out.extend_from_slice(b"\"")
 }
 
-/// Appends the first bytes of `text` between quotes, and the length of the text, which is too long to be shown in full.
+/// Appends the first bytes of `text` between quotes, followed by the length of the text. The text is too long to be
+/// shown in full.
 #[tactic(auto, unfolding(crate::specs::Quoted::front_quoted))]
 fn write_front(out: &mut Vec<u8>, text: &[u8]) -> Result<(), AllocError>
     requires { 64 < length text.now }
@@ -134,7 +137,7 @@ pub fn stands(text: &[u8]) -> bool
     text.len() <= WHOLE && are_plain(text)
 }
 
-/// Returns a byte if it is printable, and otherwise a `?`.
+/// Returns a byte if it is printable, and `?` otherwise.
 fn masked_byte(byte: u8) -> u8
     ensures { result ≡ masked_byte byte }
 {

@@ -1,6 +1,7 @@
-//! A stream of lines, from a reader to a writer. Each line is answered when its newline is read. Answers are kept until
-//! everything that was read is answered, or until there are many. In clauses, `before` are the bytes that were read
-//! before, `lines` are the lines that were processed, and `first` is what the writer had at first.
+//! Reads lines from a reader, and writes the answers to a writer. Each line is answered when its newline is read. The
+//! answers are kept until everything that was read is answered, or until there are many of them. In clauses, `before`
+//! are the bytes that were read earlier, `lines` are the lines that were processed, and `first` is the text that the
+//! writer contained at first.
 
 ghost use Rattle.std.specs.Prelude.{◌≡◌, ◌++◌, ◌∷◌, [], List, ℕ, Option, Ok, IfErr, OnErr, OnOk};
 ghost use Rattle.std.specs.Io.KnownBytes.{Appends, Consumes, IsAtEnd};
@@ -19,7 +20,7 @@ use std::io::{Read, Write};
 /// How many bytes are requested from the reader at once.
 const READ_BYTES: usize = 8192;
 
-/// When the kept answers have this many bytes, they are written before the rest of what was read is answered.
+/// When the kept answers have this many bytes, they are written before any further line is answered.
 const MANY_WAITING_BYTES: usize = 65536;
 
 /// Writes the answers in `waiting` to `writer`. Afterwards `waiting` is empty, even after an error.
@@ -39,8 +40,8 @@ fn write_waiting<W: Write, F>(writer: &mut W, waiting: &mut Vec<u8>) -> Result<(
     }
 }
 
-/// Answers the line whose beginning is in `kept` and whose end is `line`. Writes the kept answers if there are many.
-fn do_line<W: Write, J: LineReporter>(
+/// Answers the line that begins in `kept` and ends with `line`. Writes the kept answers if there are many.
+fn answer_line_and_write<W: Write, J: LineReporter>(
     alloc: Global,
     job: &mut J,
     kept: &mut Kept,
@@ -68,8 +69,8 @@ fn do_line<W: Write, J: LineReporter>(
     write_waiting(writer, &mut kept.waiting)
 }
 
-/// Answers the lines that end within `bytes`, which were read, and keeps whatever follows the last newline in `kept`.
-fn take_bytes<W: Write, J: LineReporter>(
+/// Answers the lines that end within `bytes`, which were read. The bytes after the last newline are kept in `kept`.
+fn answer_lines_in<W: Write, J: LineReporter>(
     alloc: Global,
     job: &mut J,
     kept: &mut Kept,
@@ -91,7 +92,7 @@ fn take_bytes<W: Write, J: LineReporter>(
     'lines: loop {
         let (line, more) = split_once(rest, b'\n');
         match more {
-            Some(next) => match do_line(alloc, job, kept, line, writer) {
+            Some(next) => match answer_line_and_write(alloc, job, kept, line, writer) {
                 Ok(()) => rest = next,
                 Err(error) => return Err(error),
             },
@@ -100,7 +101,8 @@ fn take_bytes<W: Write, J: LineReporter>(
     }
 }
 
-/// Answers the lines that end within `bytes`, which were read. Writes all kept answers, even after an error.
+/// Answers the lines that end within `bytes`, which were read, and writes all kept answers. They are written even
+/// after an error.
 fn step<W: Write, J: LineReporter>(
     alloc: Global,
     job: &mut J,
@@ -121,14 +123,15 @@ fn step<W: Write, J: LineReporter>(
         StopsAt J.told J.refuses error (lines_of (before ++ bytes.now)) first
         (W.contents writer.new)) }
 {
-    let taken = take_bytes(alloc, job, kept, bytes, writer); // its error waits until the answers are written
+    let taken = answer_lines_in(alloc, job, kept, bytes, writer); // an error is returned after the answers are written
     match write_waiting(writer, &mut kept.waiting) {
         Ok(()) => taken,
         Err(error) => Err(error),
     }
 }
 
-/// Answers the last line of the stream, which has no newline. Writes all kept answers, even after an error.
+/// Answers the last line of the stream, which has no newline, and writes all kept answers. They are written even
+/// after an error.
 fn finish<W: Write, J: LineReporter>(
     alloc: Global,
     job: &mut J,
@@ -146,20 +149,20 @@ fn finish<W: Write, J: LineReporter>(
         → IfErr result (λ error.
         StopsAt J.told J.refuses error (lines_of before) first (W.contents writer.new)) }
 {
-    let ended = end_line(alloc, job, kept, &[]); // its error waits until the answers are written
+    let ended = end_line(alloc, job, kept, &[]); // an error is returned after the answers are written
     match write_waiting(writer, &mut kept.waiting) {
         Ok(()) => ended,
         Err(error) => Err(error),
     }
 }
 
-/// Lets `job` process the lines of `reader`, one after another, until its end, and writes the text that it reports for
-/// them to `writer`.
+/// Lets `job` process the lines of `reader`, one after another, until the input ends. The texts that the job reports
+/// for these lines are written to `writer`.
 ///
-/// Lines end with a newline, except for the last line, which has none and may be empty. A line is dropped as soon as it
-/// is processed. The texts for the complete lines are written before more is read, so if a read fails, the output shows
-/// everything that was done until then. The memory in use is limited by the longest line, by the text for one line
-/// plus 65,536 bytes, and by what the job keeps. A line may have 16,777,216 bytes.
+/// Each line ends with a newline, except for the last line, which has none and may be empty. A line is dropped as
+/// soon as it is processed. The texts for the complete lines are written before more is read. So if a read fails, the
+/// output shows everything that was done until then. The memory in use is limited by the longest line, by the text
+/// for one line plus 65,536 bytes, and by the memory of the job itself. A line may have at most 16,777,216 bytes.
 pub fn report_lines<R: Read, W: Write, J: LineReporter>(
     alloc: Global,
     reader: &mut R,
@@ -173,7 +176,7 @@ pub fn report_lines<R: Read, W: Write, J: LineReporter>(
         × IsAtEnd (R.remaining reader.new)
         × TellsAll J.told job.new (lines_of bytes) (W.contents writer.old)
         (W.contents writer.new)) }
-    // Some of the lines that were read were processed. The error determines what else is known of them.
+    // Some of the lines that were read were processed. The error determines what else is known about these lines.
     ensures stopped { J.told job.old [] []
         → IfErr result (λ error. (bytes : List ℕ)
         × Consumes (R.remaining reader.old) (R.remaining reader.new) bytes
@@ -196,7 +199,7 @@ pub fn report_lines<R: Read, W: Write, J: LineReporter>(
     Err(StreamError::ReadError)
 }
 
-/// Lets `job` answer the lines of `reader`, one after another, until its end, as [`report_lines`] does.
+/// Lets `job` answer the lines of `reader`, one after another, until the input ends, as [`report_lines`] does.
 pub fn answer_lines<R: Read, W: Write, J: LineJob>(
     alloc: Global,
     reader: &mut R,
@@ -210,7 +213,7 @@ pub fn answer_lines<R: Read, W: Write, J: LineJob>(
         × IsAtEnd (R.remaining reader.new)
         × IsDone J.follows J.answer job.new (lines_of bytes) (W.contents writer.old)
         (W.contents writer.new)) }
-    // Some of the lines that were read were answered. The error determines what else is known of them.
+    // Some of the lines that were read were answered. The error determines what else is known about these lines.
     ensures stopped { J.follows job.old []
         → IfErr result (λ error. (bytes : List ℕ)
         × Consumes (R.remaining reader.old) (R.remaining reader.new) bytes

@@ -1,4 +1,4 @@
-//! Templates, which are texts with blanks (`~`), and how their blanks are filled.
+//! Templates are texts with blanks (`~`), which are filled with parts.
 
 ghost use Rattle.std.specs.Prelude.{◌≡◌, ◌++◌, ◌∷◌, List, IfOk, OnOk};
 ghost use Rattle.serf_text.specs.Template.{filled};
@@ -9,7 +9,8 @@ use crate::quoted::{write_masked, write_quoted, write_whole_quoted};
 use crate::words::place_of;
 use std::alloc::AllocError;
 
-/// What can fill a blank of a template. [`Part`] has what most templates need, and a crate can have its own types.
+/// A part that fills a blank of a template. [`Part`] has the parts that most templates need, and a crate can have its
+/// own types.
 ///
 /// In contracts, `text part` is the text with which `part` fills a blank.
 pub trait TemplatePart {
@@ -17,8 +18,8 @@ pub trait TemplatePart {
 
     ghost text: { Self → List ℕ };
 
-    /// Appends the text of this part. After an `AllocError`, which means that memory ran out, `out` may have a prefix of
-    /// it.
+    /// Appends the text of this part. If memory runs out, the call returns an `AllocError`, and `out` may then end in
+    /// a prefix of the text.
     fn write_to(&self, out: &mut Vec<u8>) -> Result<(), AllocError>
         ensures { OnOk result (out.new.items ≡ out.old.items ++ text self.now) };
 }
@@ -40,8 +41,8 @@ impl TemplatePart for Part<'_> {
     }
 }
 
-/// Appends `text` up to its first blank, and `part` in place of the blank. Returns what follows the blank, or no bytes if
-/// `text` has no blank.
+/// Appends the part of `text` before its first blank, and then `part` in place of the blank. Returns the rest of
+/// `text` after the blank, or no bytes if `text` has no blank.
 #[inline(always)]
 fn write_next<'a, P: TemplatePart>(
     out: &mut Vec<u8>,
@@ -65,9 +66,9 @@ fn write_next<'a, P: TemplatePart>(
     }
 }
 
-/// Appends `template`, with its blanks (`~`) filled by `parts`, one after another. Parts that are left over are dropped,
-/// and blanks that are left over stay. After an `AllocError`, which means that memory ran out, `out` may have a prefix of
-/// the text.
+/// Appends `template` with its blanks (`~`) filled by `parts`, one after another. If there are more parts than
+/// blanks, the other parts are dropped. If there are more blanks than parts, the other blanks stay as they are. If
+/// memory runs out, the call returns an `AllocError`, and `out` may then end in a prefix of the text.
 pub fn write_template<P: TemplatePart>(
     out: &mut Vec<u8>,
     template: &[u8],

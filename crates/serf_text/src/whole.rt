@@ -1,4 +1,4 @@
-//! Processes a whole text of lines, and returns the result after the last line.
+//! Processes all lines of a text, and returns the result after the last line.
 
 ghost use Rattle.std.specs.Prelude.{[], IfErr, IfOk};
 ghost use Rattle.serf_text.specs.Lines.{lines_of};
@@ -9,8 +9,8 @@ use crate::stream_error::StreamLineError;
 use crate::words::split_once;
 use std::alloc::Global;
 
-/// Lets `job` process the lines of `input`, one after another, and returns the text that it reports for them. An error
-/// has the number of the first line that wasn't processed, counted from 1, and the reason.
+/// Lets `job` process the lines of `input`, one after another, and returns the text that the job reports for them. An
+/// error contains the number of the first line that wasn't processed, counted from 1, and the reason.
 pub fn report_text<J: LineReporter>(
     alloc: Global,
     input: &[u8],

@@ -1,4 +1,4 @@
-//! The words for a packet's error, as the command `decode` and a trace print them.
+//! The words that the command `decode` and a trace print for a packet's error.
 ghost use Rattle.std.specs.Prelude.{◌≡◌, ◌++◌, OnOk, Some};
 ghost use Rattle.serf_text.specs.WireText.{pack_text, wire_text};
 
@@ -8,7 +8,7 @@ use serf_wire::WireError;
 use std::alloc::AllocError;
 use std::fmt;
 
-/// A packet's error. It prints as its name, followed by its byte and its offset in decimal if it has them: `Empty`,
+/// A packet's error. It prints as its name, followed by its byte and its offset in decimal, if it has them: `Empty`,
 /// `UnknownType 10`, `Unsupported 193 4`, `Truncated 7`.
 #[derive(Clone, Copy, Debug, PartialEq, Eq)]
 pub struct WireWords {
@@ -16,14 +16,14 @@ pub struct WireWords {
 }
 
 impl WireWords {
-    /// The words for `error`. Allocates no memory.
+    /// Returns the words for `error`. Allocates no memory.
     pub fn new(error: WireError) -> WireWords
         ensures { result.error ≡ error }
     {
         WireWords { error }
     }
 
-    /// The error that is printed. Allocates no memory.
+    /// Returns the error that these words print. Allocates no memory.
     pub fn error(self) -> WireError
         ensures { result ≡ self.error }
     {
@@ -31,7 +31,8 @@ impl WireWords {
     }
 }
 
-/// A MessagePack error. It prints as its name, followed by its byte if it has one and its offset, in decimal.
+/// A MessagePack error. It prints as its name, followed by its byte, if it has one, and by its offset, both in
+/// decimal.
 #[derive(Clone, Copy)]
 struct PackWords(PackError);
 
@@ -71,7 +72,7 @@ impl fmt::Display for WireWords {
     }
 }
 
-/// Appends the words for `error`, a MessagePack error: its name, its byte if it has one, and its offset, in decimal.
+/// Appends the words for the MessagePack error `error`: its name, its byte if it has one, and its offset, in decimal.
 fn write_pack_error(out: &mut Vec<u8>, error: PackError) -> Result<(), AllocError>
     ensures { OnOk result (out.new.items ≡ out.old.items ++ pack_text error) }
 {
@@ -85,8 +86,8 @@ fn write_pack_error(out: &mut Vec<u8>, error: PackError) -> Result<(), AllocErro
     }
 }
 
-/// Appends the words for a packet's error `error`. Returns an `AllocError` if memory runs out; `out` may then have a
-/// prefix of the words.
+/// Appends the words for `error`, which is a packet's error. If memory runs out, the call returns an `AllocError`,
+/// and `out` may then end in a prefix of the words.
 pub fn write_wire_error(out: &mut Vec<u8>, error: WireError) -> Result<(), AllocError>
     ensures { OnOk result (out.new.items ≡ out.old.items ++ wire_text error) }
 {

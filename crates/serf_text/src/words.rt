@@ -1,5 +1,6 @@
-//! The words of a line, and what they mean. A clause `Gives view result said` says that the result, mapped by `view`,
-//! equals what the definition says (`said`), including the error, unless memory ran out.
+//! Reads the words of a line and interprets them. A clause `Gives view result said` states that the result, mapped by
+//! `view`, is equal to `said`, the result according to the definition. This includes the error, unless memory ran
+//! out.
 
 ghost use Rattle.std.specs.Prelude.{◌≡◌, ◌<◌, ◌≤◌, ◌+◌, ◌++◌, ◌==◌, ◌∷◌, [], length, map, position, take, false, All, MatchOption, IfNone, IfOk, OnOk};
 ghost use Rattle.std.specs.List.{slice_split};
@@ -13,11 +14,12 @@ use memchr::memchr;
 use serf_wire::Bytes;
 use std::alloc::{AllocError, Global};
 
-/// The length in bytes from which a text is searched many bytes at once. In a shorter text this would take longer.
+/// The minimum length in bytes of a text that is searched many bytes at once. A shorter text is searched byte by
+/// byte, which is then faster.
 const LONG_TEXT: usize = 64;
 
-/// The index of the first `separator` in `text`, counted from 0, or `None` if there is none. Searches many bytes at
-/// once.
+/// Returns the index of the first `separator` in `text`, counted from 0, or `None` if there is none. Searches many
+/// bytes at once.
 #[inline(never)]
 fn place_in_long(text: &[u8], separator: u8) -> Option<usize>
     ensures place { result ≡ position (λ b. b == separator) text.now }
@@ -26,7 +28,7 @@ fn place_in_long(text: &[u8], separator: u8) -> Option<usize>
     memchr(separator, text)
 }
 
-/// The index of the first `separator` in `text`, counted from 0, or `None` if there is none.
+/// Returns the index of the first `separator` in `text`, counted from 0, or `None` if there is none.
 #[inline(always)]
 pub(crate) fn place_of(text: &[u8], separator: u8) -> Option<usize>
     ensures place { result ≡ position (λ b. b == separator) text.now }
@@ -39,8 +41,8 @@ pub(crate) fn place_of(text: &[u8], separator: u8) -> Option<usize>
     }
 }
 
-/// Splits `text` at its first `separator` into what comes before it and what follows it. If there is no separator,
-/// returns all of `text` and `None`. Allocates no memory.
+/// Splits `text` at its first `separator`. Returns the part before the separator and the part after it. If there is
+/// no separator, the call returns all of `text` and `None`. Allocates no memory.
 #[inline(always)]
 pub fn split_once(text: &[u8], separator: u8) -> (&[u8], Option<&[u8]>)
     ensures parts { MatchOption result.1
@@ -56,13 +58,14 @@ pub fn split_once(text: &[u8], separator: u8) -> (&[u8], Option<&[u8]>)
     }
 }
 
-/// How many words of a line get a place in an array. A line may have any number of further words.
+/// The number of words of a line that are put into an array of fixed size. A line may have more words than this.
 pub const FIXED_WORDS: usize = 8;
 
-/// The first words of `line`, at most eight, at the front of an array, then their number, and then the rest of the
-/// line: the ninth word and everything after it, or nothing. Words are separated by spaces. Allocates no memory.
+/// Splits `line` into its words, which are separated by spaces. Returns an array with the first words, at most eight,
+/// the number of these words, and the rest of the line. The rest is the ninth word and everything after it, or
+/// nothing. Allocates no memory.
 #[inline(always)]
-pub fn cut_words(line: &[u8]) -> ([&[u8]; FIXED_WORDS], usize, &[u8])
+pub fn split_words(line: &[u8]) -> ([&[u8]; FIXED_WORDS], usize, &[u8])
     ensures joined { map (λ w. w.now) (take result.1 result.0) ++ words_of result.2.now
         ≡ words_of line.entry.now }
     ensures counted { length (take result.1 result.0) ≡ result.1 }
@@ -89,31 +92,35 @@ pub fn cut_words(line: &[u8]) -> ([&[u8]; FIXED_WORDS], usize, &[u8])
     }
 }
 
-/// Replaces the contents of `words` with the first words of `line`, as [`cut_words`] returns them, and returns the rest
-/// of the line.
+/// Replaces the contents of `words` with the first words of `line`, at most eight, as [`split_words`] finds them.
+/// Returns the rest of the line.
 ///
 /// If memory runs out for the words, `words` is empty afterwards.
-pub fn take_words<'a>(line: &'a [u8], words: &mut Vec<&'a [u8]>) -> Result<&'a [u8], AllocError>
+pub fn split_words_into<'a>(
+    line: &'a [u8],
+    words: &mut Vec<&'a [u8]>,
+) -> Result<&'a [u8], AllocError>
     ensures joined { IfOk result (λ rest. map (λ w. w.now) words.new.items ++ words_of rest.now
         ≡ words_of line.entry.now) }
     ensures few { OnOk result (length words.new.items ≤ FIXED_WORDS) }
     ensures full { IfOk result (λ rest. 0 < length rest.now
         → (length words.new.items ≡ FIXED_WORDS) × (0 < length (words_of rest.now))) }
 {
-    let (first, count, rest) = cut_words(line); // at most eight words, their number, and the rest
+    let (first, count, rest) = split_words(line); // at most eight words, their number, and the rest
     words.clear();
     words.extend_from_slice(&first[..count])?;
     Ok(rest)
 }
 
-/// Whether `word` is equal to `text`. Allocates no memory.
+/// Returns whether `word` is equal to `text`. Allocates no memory.
 pub fn is_word(word: &[u8], text: &[u8]) -> bool
     ensures { result ≡ bytes_eq word.now text.now }
 {
     word == text
 }
 
-/// The number below 2^64 that `word` spells in decimal digits, or `None` for any other word. Allocates no memory.
+/// Returns the number below 2^64 that `word` spells in decimal digits, or `None` for any other word. Allocates no
+/// memory.
 pub fn number(word: &[u8]) -> Option<u64>
     ensures { result ≡ number_of word.now }
 {
@@ -137,7 +144,8 @@ pub fn number(word: &[u8]) -> Option<u64>
     Some(value)
 }
 
-/// The bytes that `word` spells in hex, two digits for each, and no bytes for `-`. Returns `None` for any other word.
+/// Returns the bytes that `word` spells in hex, with two digits for each byte. The word `-` spells no bytes. Returns
+/// `None` for any other word.
 pub fn hex_bytes(alloc: Global, word: &[u8]) -> Result<Option<Bytes>, AllocError>
     ensures { IfOk result (λ found. found ≡ bytes_of word.now) }
 {
@@ -151,8 +159,7 @@ pub fn hex_bytes(alloc: Global, word: &[u8]) -> Result<Option<Bytes>, AllocError
     }
 }
 
-/// Which of two words `word` is: false for `first`, true for `second`, or `None` for any other word. Allocates no
-/// memory.
+/// Returns false if `word` is `first`, true if it is `second`, and `None` for any other word. Allocates no memory.
 pub fn choice(word: &[u8], first: &[u8], second: &[u8]) -> Option<bool>
     ensures { result ≡ choice_of first.now second.now word.now }
 {
@@ -165,8 +172,8 @@ pub fn choice(word: &[u8], first: &[u8], second: &[u8]) -> Option<bool>
     }
 }
 
-/// The word at `place` of a line's `words`, counting from 1, or no bytes if there is none. Place 0 also means the first
-/// word. Allocates no memory.
+/// Returns the word at `place` of a line's `words`, counted from 1, or no bytes if there is none. Place 0 also means
+/// the first word. Allocates no memory.
 pub fn word_at<'a>(words: &[&'a [u8]], place: usize) -> &'a [u8]
     ensures { result.now ≡ word_at place (map (λ w. w.now) words.now) }
 {
@@ -176,7 +183,8 @@ pub fn word_at<'a>(words: &[&'a [u8]], place: usize) -> &'a [u8]
     }
 }
 
-/// The number below 2^64 at `place` of a line's `words`, counting from 1: decimal digits, leading zeros allowed.
+/// Returns the number below 2^64 at `place` of a line's `words`, counted from 1. It is written in decimal digits, and
+/// may have leading zeros.
 ///
 /// Returns `BadWord(place)` if the word isn't a number of this kind, or if it is missing. Allocates no memory.
 #[tactic(auto, unfolding(crate::specs::Words::number_in))]
@@ -189,7 +197,7 @@ pub fn number_at(words: &[&[u8]], place: usize) -> Result<u64, LineError>
     }
 }
 
-/// The number `found` if it is from `low` to `high`, and `None` otherwise.
+/// Returns the number `found` if it is from `low` to `high`, and `None` otherwise.
 fn keep_between(found: Option<u64>, low: u64, high: u64) -> Option<u64>
     ensures { result ≡ between low high found }
 {
@@ -199,7 +207,7 @@ fn keep_between(found: Option<u64>, low: u64, high: u64) -> Option<u64>
     }
 }
 
-/// The number at `place` of a line's `words`, counting from 1, which has to be from `low` to `high`.
+/// Returns the number at `place` of a line's `words`, counted from 1. The number has to be from `low` to `high`.
 ///
 /// Returns `BadWord(place)` if the word isn't a number in this range, or if it is missing. Allocates no memory.
 #[tactic(auto, unfolding(crate::specs::Words::number_between))]
@@ -214,7 +222,8 @@ pub fn number_from_to(words: &[&[u8]], place: usize, low: u64, high: u64) -> Res
     }
 }
 
-/// The bytes at `place` of a line's `words`, counting from 1: hex digits, two for each byte, or `-` for none.
+/// Returns the bytes at `place` of a line's `words`, counted from 1. They are written as hex digits, two for each
+/// byte, or as `-` if there are none.
 ///
 /// Returns `BadWord(place)` if the word is neither of these, or if it is missing.
 #[tactic(auto, unfolding(crate::specs::Words::bytes_in))]
@@ -227,9 +236,10 @@ pub fn bytes_at(alloc: Global, words: &[&[u8]], place: usize) -> Result<Bytes, L
     }
 }
 
-/// Which of two words is at `place` of a line's `words`, counting from 1: false for `first`, true for `second`.
+/// Returns which of two words is at `place` of a line's `words`, counted from 1: false for `first`, true for
+/// `second`.
 ///
-/// Returns `BadWord(place)` if another word is there, or none. Allocates no memory.
+/// Returns `BadWord(place)` if another word is there, or if the word is missing. Allocates no memory.
 #[tactic(auto, unfolding(crate::specs::Words::choice_in))]
 pub fn choice_at(
     words: &[&[u8]],

@@ -1,4 +1,4 @@
-//! What is offered to a window: a borrowed key, before any memory is allocated for it.
+//! A borrowed key, which a caller offers to a window before any memory is allocated for the key.
 
 ghost use Rattle.std.specs.Prelude.{◌≡◌, Bool, false, true, IfOk, OnErr};
 ghost use Rattle.serf_window.specs.Queries.{same_id};
@@ -7,22 +7,22 @@ ghost use Rattle.serf_window.specs.Texts.{event_of, same_texts};
 use serf_wire::{Bytes, EventBody, EventView};
 use std::alloc::{AllocError, Global};
 
-/// A borrowed key of a window: an event's texts, or a query's ID.
+/// A borrowed key of a window: an event's name and payload, or a query's ID.
 pub trait BorrowedKey<K> {
     /// Whether two keys of one time are the same.
     ghost same: { K → K → Bool };
 
-    /// The key that is borrowed here.
+    /// The key that `Self` borrows, as a value of type `K`.
     ghost key: { Self → K };
 
     /// Whether a copy of the key allocates memory.
     ghost takes_memory: { Self → Bool };
 
-    /// Whether `held` is the same key. Allocates no memory.
+    /// Returns whether `held` is the same key. Allocates no memory.
     fn is(&self, held: &K) -> bool
         ensures { result ≡ same held.now (key self.now) };
 
-    /// A copy of the key, or `AllocError` if there is no memory for it.
+    /// Returns a copy of the key, or `AllocError` if there is no memory for the copy.
     fn copy_of(&self, alloc: Global) -> Result<K, AllocError>
         ensures copy { IfOk result (λ copy. copy ≡ key self.now) }
         ensures free { OnErr result (takes_memory self.now ≡ true) };
@@ -35,8 +35,8 @@ impl<'a> BorrowedKey<EventBody> for EventView<'a> {
 
     ghost takes_memory = { λ _. true };
 
-    /// Whether `held` is the same event. The lengths and the payloads are compared first, because they are
-    /// the most likely to differ.
+    /// Returns whether `held` is the same event. The lengths and the payloads are compared first, because
+    /// they are the most likely to differ.
     fn is(&self, held: &EventBody) -> bool {
         let name = held.name.as_slice();
         let payload = held.payload.as_slice();

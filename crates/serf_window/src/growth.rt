@@ -1,4 +1,5 @@
-//! Makes the slots of a window. A slot gets memory when a time first enters it or a slot with a higher index.
+//! Makes the slots of a window. Memory for a slot is allocated when a time first enters this slot or a slot
+//! with a higher index.
 
 ghost use Rattle.std.specs.Prelude.{◌≡◌, ◌+◌, ◌<◌, ◌≤◌, ◌++◌, replicate, OnOk, OnErr, vec_len, vec_capacity};
 ghost use Rattle.serf_wire.specs.Buffers.{unused_slot};
@@ -10,7 +11,7 @@ use serf_lamport::Time;
 use serf_wire::{ReservedVec, TimeSlot};
 use std::alloc::{AllocError, Global};
 
-/// A slot that was never used. Allocates no memory.
+/// Returns a slot that was never used. Allocates no memory.
 fn unused<K>(alloc: Global) -> TimeSlot<K>
     ensures { result ≡ unused_slot }
 {
@@ -33,9 +34,9 @@ fn add_unused<K>(slots: &mut Vec<TimeSlot<K>>, alloc: Global, count: usize)
     }
 }
 
-/// Makes the slot at `place` of a window of `n` slots, and the slots before it, if it isn't in memory yet. In
-/// this case `slots` becomes at least twice as long, but never longer than `n`. What the slots hold doesn't
-/// change.
+/// If the slot at `place` of a window of `n` slots isn't in memory yet, the call makes this slot and all
+/// slots before it. Then `slots` becomes at least twice as long, but never longer than `n`. The entries in
+/// the slots don't change.
 pub(crate) fn reach<K>(
     slots: &mut Vec<TimeSlot<K>>,
     alloc: Global,

@@ -1,8 +1,8 @@
-//! The entries from which a window is filled again after a restart.
+//! The entries with which a window is filled again after a restart.
 
 use serf_lamport::Time;
 
-/// An entry that was kept: its time and its key, which is borrowed.
+/// A kept entry: its time and its key, which is borrowed.
 #[derive(Clone, Copy, Debug)]
 pub struct Offer<L> {
     pub time: Time,

@@ -11,8 +11,8 @@ use crate::window::Window;
 use std::alloc::{AllocError, Global};
 
 impl<K: Drop> Window<K> {
-    /// Restores the entry `offer` if it is new. Returns the smallest time that may be accepted from then on;
-    /// before the call it was `minimum`.
+    /// Restores the entry `offer` if the window's verdict is `New`. Returns the smallest time that may be
+    /// accepted from then on. Before the call, the smallest time was `minimum`.
     fn take_back<L: BorrowedKey<K>>(
         &mut self,
         alloc: Global,
@@ -48,13 +48,13 @@ impl<K: Drop> Window<K> {
         }
     }
 
-    /// Restores `offers`, in order. Each one enters if the window would accept it as new, with `minimum` as
-    /// the smallest time and with `clock`, which is above all their times. An offer whose time is full is
-    /// left out, and then no time up to its own may be accepted any more. Returns the smallest time that may
-    /// be accepted from then on.
+    /// Restores `offers`, in order. Each offer enters if the window would accept it as new, given that
+    /// `minimum` is the smallest time and `clock` is above the times of all offers. If an offer's time is
+    /// full, the offer is left out, and from then on no entry up to this time may be accepted. Returns the
+    /// smallest time that may be accepted from then on.
     ///
-    /// If there is no memory, returns `AllocError`. The window then holds the offers that entered before the
-    /// failed one.
+    /// If there is no memory, the call returns `AllocError`. The window then holds the offers that entered
+    /// before the one that failed.
     pub fn recall<L: BorrowedKey<K>>(
         &mut self,
         alloc: Global,

@@ -1,4 +1,5 @@
-//! The window: the latest entries, in slots by time, and the verdict on an entry that is offered.
+//! A window holds the latest entries, in slots by time, and decides whether an entry that is offered may
+//! enter.
 
 ghost use Rattle.std.specs.Prelude.{◌≡◌, ◌≢◌, false, ℕ, ◌<◌, ◌≤◌, ◌*◌, ◌%◌, ◌^◌, ◌↔◌, ◌⊎◌, List, [], ◌∷◌, ◌++◌, map, length, sum_by, OnOk, OnErr, IfOk, IsErr, slice_index_or};
 ghost use Rattle.std.specs.List.{list_any};
@@ -16,7 +17,7 @@ use serf_wire::{BorrowedSlots, EventBody, ReservedVec, TimeSlot};
 use std::alloc::{AllocError, Global};
 use std::marker::Model;
 
-/// A time and a copied key. The window that prepared them can insert them without allocating memory.
+/// A time and a copied key. The window that prepared this entry can insert it without allocating memory.
 #[derive(Debug, Drop)]
 pub struct Entry<K> {
     time: Time,
@@ -31,15 +32,15 @@ impl<K> Model for Entry<K> {
     ghost view = { λ e. record { time = e.time; key = e.key } };
 }
 
-/// The keys of the latest times, in slots by time modulo the number of slots, at most `per_time` keys of one
-/// time.
+/// The keys of the latest times, in slots by time modulo the number of slots. The window holds at most
+/// `per_time` keys of one time.
 ///
-/// A slot is made when a time first enters it or a slot with a higher index, so an empty window uses no
-/// memory. Contracts see all slots, the room in each, and `per_time`.
+/// A slot is made when a time first enters this slot or a slot with a higher index, so an empty window uses
+/// no memory. Contracts see all slots, the room in each, and `per_time`.
 #[derive(Debug, Drop)]
 pub struct Window<K> {
-    /// The first slots, which are in memory: all up to the last slot that was ever used, and at most as many
-    /// again.
+    /// The slots that are in memory. These are all slots up to the highest one that was ever used, and at
+    /// most as many more.
     made: Vec<TimeSlot<K>>,
     slot_count: u64,
     per_time: u64,
@@ -64,27 +65,27 @@ impl<K> Model for Window<K> {
         (map slot_view (all_slots w.slot_count w.made.items)) × (vec_len w.made ≤ w.slot_count) };
 }
 
-/// The window of events: two events are the same if their times, names and payloads are equal.
+/// The window of events. Two events are the same if their times, names and payloads are equal.
 pub type EventWindow = Window<EventBody>;
 
-/// The window of queries: two queries are the same if their times and IDs are equal.
+/// The window of queries. Two queries are the same if their times and IDs are equal.
 pub type QueryWindow = Window<u32>;
 
-/// IDs of queries, in order.
+/// A list of queries' IDs, in order.
 pub type Ids = ReservedVec<u32>;
 
 /// A slot with the IDs of queries.
 pub type IdSlot = TimeSlot<u32>;
 
-/// Whether one of the keys `held` is the same as `key`.
+/// Returns whether one of the keys in `held` is the same as `key`.
 fn is_among<K, L: BorrowedKey<K>>(held: &[K], key: &L) -> bool
     ensures { result ≡ list_any (λ h. L.same h (L.key key.now)) held.now }
 {
     held.iter().any(|other| key.is(other))
 }
 
-/// The verdict on `key` at `time` by `slot`, which is the slot of `time`. The time must not be below the
-/// minimum, nor too old.
+/// Decides on an entry with `time` and `key` from the entries in `slot`, which is the slot of `time`. The
+/// time must not be below the minimum, and it must not be too old.
 fn verdict_in<K, L: BorrowedKey<K>>(
     slot: &TimeSlot<K>,
     per_time: u64,
@@ -108,8 +109,8 @@ fn verdict_in<K, L: BorrowedKey<K>>(
     }
 }
 
-/// The verdict on `key` at `time` by the slot at `place`. If this slot was never used, nothing has entered
-/// it.
+/// Decides on an entry with `time` and `key` from the entries in the slot at `place`. If this slot was never
+/// used, no entry has entered it.
 #[inline(always)]
 fn verdict_at<K, L: BorrowedKey<K>>(
     made: &[TimeSlot<K>],
@@ -128,8 +129,8 @@ fn verdict_at<K, L: BorrowedKey<K>>(
     }
 }
 
-/// Inserts `key` into `slot`, which is the slot of `time`. If the slot holds an older time, its entries are
-/// removed first, but it keeps its memory.
+/// Inserts `key` into `slot`, which is the slot of `time`. If the slot holds entries of an older time, they
+/// are removed first, but the slot keeps its memory.
 fn accept<K: Drop>(slot: &mut TimeSlot<K>, time: Time, key: K)
     requires room { 0 < slot.old.held.room }
     requires not_later { slot.old.time ≤ time }
@@ -143,7 +144,7 @@ fn accept<K: Drop>(slot: &mut TimeSlot<K>, time: Time, key: K)
     slot.held.add(key);
 }
 
-/// The number of keys in `slots`.
+/// Returns the number of keys in `slots`.
 fn count_held<K>(slots: &[TimeSlot<K>]) -> u64
     requires { sum_by (λ slot. length slot.held.items) slots.now < 2 ^ 64 }
     ensures { result ≡ sum_by (λ slot. length slot.held.items) slots.now }
@@ -155,8 +156,9 @@ fn count_held<K>(slots: &[TimeSlot<K>]) -> u64
 }
 
 impl<K: Drop> Window<K> {
-    /// A window of `slot_count` slots that were never used, which accepts at most `per_time` keys of one
-    /// time. Returns `BadSize` if one of the two numbers is 0 or above 65,536. Allocates no memory.
+    /// Returns a window of `slot_count` slots that were never used. The window accepts at most `per_time`
+    /// keys of one time. Returns `BadSize` if one of the two numbers is 0 or above 65,536. Allocates no
+    /// memory.
     pub fn new(alloc: Global, slot_count: u64, per_time: u64) -> Result<Self, NewWindowError>
         ensures slots { IfOk result (λ window. window.slots ≡ slots_of slot_count []) }
         ensures size { IfOk result (λ window. length window.slots ≡ slot_count) }
@@ -176,11 +178,11 @@ impl<K: Drop> Window<K> {
         })
     }
 
-    /// The verdict on `key` at `time`. It is the verdict that follows from all entries that have ever
-    /// entered, although the window holds only the latest ones. The caller's clock, `clock_after`, must be
-    /// above `time` and above the times of all slots, and `minimum` is the smallest time that the caller
-    /// accepts. If the clock isn't above them, the verdict may be wrong, but it is `New` only if the entry
-    /// may enter. Allocates no memory.
+    /// Returns the verdict on an entry with `time` and `key`. The verdict takes into account all entries that
+    /// have ever entered, although the window holds only the latest ones. The caller's clock, `clock_after`,
+    /// must be above `time` and above the times of all slots. `minimum` is the smallest time that the caller
+    /// accepts. If the clock isn't above all these times, the verdict may be wrong, but it is `New` only if
+    /// the entry may enter. Allocates no memory.
     #[inline]
     pub fn offer<L: BorrowedKey<K>>(
         &self,
@@ -209,9 +211,9 @@ impl<K: Drop> Window<K> {
         verdict_at(self.made.as_slice(), place, self.per_time, time, key)
     }
 
-    /// Copies `key` and makes room for it at `time`, so that it can enter without allocating memory. What the
-    /// window holds doesn't change. If there is no memory, returns `AllocError`, and the whole window is
-    /// unchanged.
+    /// Copies `key` and makes room for it at `time`, so that it can enter without allocating memory. The
+    /// entries in the window don't change. If there is no memory, the call returns `AllocError`, and the
+    /// whole window is unchanged.
     pub fn prepare<L: BorrowedKey<K>>(
         &mut self,
         alloc: Global,
@@ -239,7 +241,7 @@ impl<K: Drop> Window<K> {
 
     /// Inserts `entry`. There must be room for its time, its slot must not hold a later time, and the window
     /// must hold fewer than `per_time` keys of its time. `prepare` makes the room, and the verdict `New` of
-    /// `offer` ensures the rest. Allocates no memory.
+    /// `offer` ensures the other two conditions. Allocates no memory.
     pub fn insert_new(&mut self, entry: Entry<K>)
         requires room { 0 < room_for self.old entry.time }
         requires not_later { time_in self.old.slots entry.time ≤ entry.time }
@@ -261,7 +263,7 @@ impl<K: Drop> Window<K> {
         accept(&mut self.made[place], time, key);
     }
 
-    /// All slots, in order. A slot that was never used is empty. Allocates no memory.
+    /// Returns all slots, in order. A slot that was never used is empty. Allocates no memory.
     pub fn slots(&self) -> BorrowedSlots<'_, K>
         ensures slots { map slot_view (slots_borrowed result) ≡ self.now.slots }
         ensures bounds { IsWindow (length self.now.slots) self.now.per_time self.now.slots }
@@ -270,8 +272,8 @@ impl<K: Drop> Window<K> {
         BorrowedSlots::of(self.made.as_slice(), unused as u32)
     }
 
-    /// How many keys the window holds: never more than the number of slots times `per_time`. Allocates no
-    /// memory.
+    /// Returns the number of keys that the window holds. It is never more than the number of slots times
+    /// `per_time`. Allocates no memory.
     pub fn held(&self) -> u64
         ensures count { result ≡ held_count self.now.slots }
         ensures bound { result ≤ length self.now.slots * self.now.per_time }

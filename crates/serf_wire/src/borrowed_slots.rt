@@ -1,4 +1,4 @@
-//! The slots of a buffer, borrowed and not copied.
+//! The slots of a buffer, which are borrowed and not copied.
 
 ghost use Rattle.std.specs.Prelude.{◌≡◌, ◌++◌, ⊤, length, map, replicate, slice_get};
 ghost use Rattle.std.specs.Option.{option_map};
@@ -8,17 +8,17 @@ use crate::texts::{EventBody, TimeSlot};
 use serf_lamport::Time;
 use std::alloc::AllocError;
 
-/// One borrowed slot of a buffer: a time, and what the slot holds of that time, in order.
+/// A borrowed slot of a buffer: a time, and the entries of this time that the slot holds, in order.
 #[derive(Drop)]
 pub struct BorrowedSlot<'a, T> {
     pub time: Time,
     pub held: &'a [T],
 }
 
-/// The borrowed slots of a buffer that haven't been read yet, in order.
+/// The slots of a buffer that haven't been read yet, borrowed and in order.
 ///
-/// The slots that were never used follow the others, and use no memory. Each of them has the time 0, and
-/// holds nothing.
+/// The slots that were never used come last and use no memory. Each of them has the time 0 and holds no
+/// entries.
 #[derive(Drop)]
 pub struct BorrowedSlots<'a, T> {
     pub(crate) used: &'a [TimeSlot<T>],
@@ -40,7 +40,7 @@ impl<'a, T> Clone for BorrowedSlots<'a, T> {
     }
 }
 
-/// The time of `slot` and what it holds, both borrowed.
+/// Borrows the time of `slot` and the entries that it holds.
 fn borrowed<'a, T>(slot: &'a TimeSlot<T>) -> BorrowedSlot<'a, T>
     ensures { borrowed_slot result ≡ slot_in_memory slot.now }
 {
@@ -50,7 +50,7 @@ fn borrowed<'a, T>(slot: &'a TimeSlot<T>) -> BorrowedSlot<'a, T>
     }
 }
 
-/// A slot that was never used: its time is 0, and it holds nothing.
+/// Returns a slot that was never used: its time is 0, and it holds no entries.
 fn unused<'a, T>() -> BorrowedSlot<'a, T>
     ensures { borrowed_slot result ≡ slot_in_memory unused_slot }
 {
@@ -61,21 +61,21 @@ fn unused<'a, T>() -> BorrowedSlot<'a, T>
 }
 
 impl<'a, T> BorrowedSlots<'a, T> {
-    /// The slots `used`, followed by `unused` slots that were never used. Allocates no memory.
+    /// Returns the slots `used`, followed by `unused` slots that were never used. Allocates no memory.
     pub fn of(used: &'a [TimeSlot<T>], unused: u32) -> BorrowedSlots<'a, T>
         ensures { slots_borrowed result ≡ used.now ++ replicate unused unused_slot }
     {
         BorrowedSlots { used, unused }
     }
 
-    /// The number of slots. Allocates no memory.
+    /// Returns the number of slots. Allocates no memory.
     pub fn len(&self) -> usize
         ensures { result ≡ length (slots_borrowed self.now) }
     {
         self.used.len() + self.unused as usize
     }
 
-    /// The slot at `index`, if there is one. Allocates no memory.
+    /// Returns the slot at `index`, if there is one. Allocates no memory.
     pub fn get(&self, index: usize) -> Option<BorrowedSlot<'a, T>>
         ensures { option_map borrowed_slot result
             ≡ slice_get (map slot_in_memory (slots_borrowed self.now)) index }

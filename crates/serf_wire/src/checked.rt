@@ -1,4 +1,4 @@
-//! Finds the fields of the one map that follows a packet's type byte, with any layout.
+//! Finds the fields of the one map that follows a packet's type byte. The map may have any layout.
 
 ghost use Rattle.std.specs.Prelude.{◌≡◌, ◌<◌, ◌^◌};
 ghost use Rattle.serf_pack.specs.Breaks.{error_place};
@@ -13,8 +13,8 @@ use crate::found::FoundFields;
 use crate::layout::Layout;
 use serf_pack::{Kind, PackError, View, check};
 
-/// Turns `error`, an error of the bytes after the type byte, into an error of the whole packet: its offset
-/// becomes one higher.
+/// Turns `error`, whose offset counts from the byte after the type byte, into an error of the whole packet.
+/// Its offset becomes one higher.
 fn shift(error: PackError) -> PackError
     requires { error_place error < 2 ^ 63 }
     ensures { result ≡ shifted error }
@@ -27,8 +27,8 @@ fn shift(error: PackError) -> PackError
     }
 }
 
-/// The values of the fields of the map `value` that `layout` knows, or the map's first error. Returns
-/// `NotAMap` if `value` isn't a map.
+/// Returns the values of those fields of the map `value` that `layout` knows, or the map's first error.
+/// Returns `NotAMap` if `value` isn't a map.
 fn find_map<'a>(layout: Layout, value: &View<'a>) -> Result<FoundFields<'a>, WireError>
     ensures { FindsChecked layout result (sound_pairs layout (tree_of value.now)) }
 {
@@ -38,8 +38,8 @@ fn find_map<'a>(layout: Layout, value: &View<'a>) -> Result<FoundFields<'a>, Wir
     find_known(layout, value)
 }
 
-/// The values of the fields of the map that `bytes` spell after a packet's type byte, or the packet's first
-/// error.
+/// Reads the map that `bytes` spell after a packet's type byte. Returns the values of those fields that
+/// `layout` knows, or the packet's first error.
 pub fn find_checked(layout: Layout, bytes: &[u8]) -> Result<FoundFields<'_>, WireError>
     ensures { FindsChecked layout result (checked_pairs layout (whole_at 8 bytes.now)) }
 {

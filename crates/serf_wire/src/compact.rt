@@ -1,7 +1,8 @@
-//! Reads values of MessagePack in compact spellings, from the start of `bytes`.
+//! Reads MessagePack values in compact spellings, from the start of `bytes`.
 //!
-//! Each reader returns `None` if `bytes` begin with anything else. The general readers then have to read it.
-//! The first bytes that the readers distinguish are those of MessagePack's formats (`head.rt` of serf_pack).
+//! Each reader returns `None` if `bytes` begin with anything else. Then the general readers have to read the
+//! value. The first bytes that the readers distinguish are those of MessagePack's formats (`head.rt` of
+//! serf_pack).
 
 ghost use Rattle.std.specs.Prelude.{◌≡◌, ◌≤◌, ◌<◌, ◌+◌, ◌-◌, ◌^◌, ◌∷◌, [], take, drop, length, unwrap_or, None, Ok, IfSome};
 ghost use Rattle.std.specs.Option.{option_copied, option_map};
@@ -20,7 +21,7 @@ use crate::laws::laws_below;
 use crate::lists::Texts;
 use serf_pack::{View, view_packed};
 
-/// The first byte of `bytes` as a number, and the bytes after it.
+/// Reads the first byte of `bytes` as a number. Returns the number and the bytes after it.
 #[inline(always)]
 fn one_byte(bytes: &[u8]) -> Option<(u64, &[u8])>
     ensures room { IfSome result (λ x. 1 ≤ length bytes.now) }
@@ -34,7 +35,8 @@ fn one_byte(bytes: &[u8]) -> Option<(u64, &[u8])>
     }
 }
 
-/// The number in the first two bytes of `bytes`, the most significant byte first, and the bytes after them.
+/// Reads a number in the first two bytes of `bytes`, the most significant byte first. Returns the number and
+/// the bytes after it.
 #[inline(always)]
 fn two_bytes(bytes: &[u8]) -> Option<(u64, &[u8])>
     ensures room { IfSome result (λ x. 2 ≤ length bytes.now) }
@@ -48,7 +50,8 @@ fn two_bytes(bytes: &[u8]) -> Option<(u64, &[u8])>
     }
 }
 
-/// The number in the first four bytes of `bytes`, the most significant byte first, and the bytes after them.
+/// Reads a number in the first four bytes of `bytes`, the most significant byte first. Returns the number and
+/// the bytes after it.
 #[inline(always)]
 fn four_bytes(bytes: &[u8]) -> Option<(u64, &[u8])>
     ensures room { IfSome result (λ x. 4 ≤ length bytes.now) }
@@ -65,7 +68,8 @@ fn four_bytes(bytes: &[u8]) -> Option<(u64, &[u8])>
     }
 }
 
-/// The number in the first eight bytes of `bytes`, the most significant byte first, and the bytes after them.
+/// Reads a number in the first eight bytes of `bytes`, the most significant byte first. Returns the number and
+/// the bytes after it.
 #[inline(always)]
 fn eight_bytes(bytes: &[u8]) -> Option<(u64, &[u8])>
     ensures room { IfSome result (λ x. 8 ≤ length bytes.now) }
@@ -78,7 +82,8 @@ fn eight_bytes(bytes: &[u8]) -> Option<(u64, &[u8])>
     Some((high * 0x1_0000_0000 + low, rest))
 }
 
-/// The number from 0 to 2^64 - 1 at the start of `bytes` (nil means 0), and the bytes after it.
+/// Reads a number from 0 to 2^64 - 1 at the start of `bytes`; nil means 0. Returns the number and the bytes
+/// after it.
 #[inline(always)]
 pub fn read_number(bytes: &[u8]) -> Option<(u64, &[u8])>
     ensures { IfSome result (λ x. Reads (number max_clock) x.0 bytes.now x.1.now) }
@@ -98,8 +103,8 @@ pub fn read_number(bytes: &[u8]) -> Option<(u64, &[u8])>
     }
 }
 
-/// The number of pairs of a map whose header of one byte is at the start of `bytes`, and the bytes after the
-/// header.
+/// Reads a map's header of one byte at the start of `bytes`. Returns the number of pairs, and the bytes after
+/// the header.
 #[inline(always)]
 pub fn read_map_head(bytes: &[u8]) -> Option<(u8, &[u8])>
     ensures head { IfSome result (λ x. bytes.now ≡ (128 + x.0) ∷ x.1.now) }
@@ -114,7 +119,7 @@ pub fn read_map_head(bytes: &[u8]) -> Option<(u8, &[u8])>
     }
 }
 
-/// The first `n` bytes of `bytes`, and the bytes after them, or `None` if there are fewer than `n`.
+/// Splits `bytes` after the first `n` bytes. Returns `None` if there are fewer than `n`.
 #[inline(always)]
 fn split(n: usize, bytes: &[u8]) -> Option<(&[u8], &[u8])>
     ensures room { IfSome result (λ x. n ≤ length bytes.now) }
@@ -127,8 +132,8 @@ fn split(n: usize, bytes: &[u8]) -> Option<(&[u8], &[u8])>
     Some((&bytes[..n], &bytes[n..]))
 }
 
-/// The byte string at the start of `bytes`, if its header has one byte or three, and the bytes after the
-/// string.
+/// Reads a byte string at the start of `bytes`, if its header has one byte or three. Returns the string and
+/// the bytes after it.
 #[inline(always)]
 pub fn read_raw(bytes: &[u8]) -> Option<(&[u8], &[u8])>
     ensures { IfSome result (λ x. Reads raw_of x.0.now bytes.now x.1.now) }
@@ -147,7 +152,7 @@ pub fn read_raw(bytes: &[u8]) -> Option<(&[u8], &[u8])>
     }
 }
 
-/// The bytes after a nil at the start of `bytes`.
+/// Returns the bytes after a nil, if `bytes` begin with a nil.
 #[inline(always)]
 pub fn skip_nil(bytes: &[u8]) -> Option<&[u8]>
     ensures { IfSome result (λ rest. bytes.now ≡ 0xc0 ∷ rest.now) }
@@ -158,7 +163,7 @@ pub fn skip_nil(bytes: &[u8]) -> Option<&[u8]>
     }
 }
 
-/// The text at the start of `bytes` (nil means the empty text), and the bytes after it.
+/// Reads a text at the start of `bytes`; nil means the empty text. Returns the text and the bytes after it.
 #[inline(always)]
 pub fn read_text(bytes: &[u8]) -> Option<(&[u8], &[u8])>
     ensures { IfSome result (λ x. Reads text x.0.now bytes.now x.1.now) }
@@ -173,7 +178,7 @@ pub fn read_text(bytes: &[u8]) -> Option<(&[u8], &[u8])>
     }
 }
 
-/// The number of items of an array whose header of one byte or three is at the start of `bytes`, and the
+/// Reads an array's header of one byte or three at the start of `bytes`. Returns the number of items, and the
 /// bytes after the header.
 #[inline(always)]
 pub fn read_array_head(bytes: &[u8]) -> Option<(u64, &[u8])>
@@ -189,8 +194,8 @@ pub fn read_array_head(bytes: &[u8]) -> Option<(u64, &[u8])>
     }
 }
 
-/// The number of pairs of a map whose header of one byte or three is at the start of `bytes`, and the bytes
-/// after the header.
+/// Reads a map's header of one byte or three at the start of `bytes`. Returns the number of pairs, and the
+/// bytes after the header.
 #[inline(always)]
 pub fn read_long_map_head(bytes: &[u8]) -> Option<(u64, &[u8])>
     ensures { IfSome result (λ x. head_at 0 bytes.now ≡ Ok (heads.Map x.0, x.1.now)) }
@@ -205,7 +210,8 @@ pub fn read_long_map_head(bytes: &[u8]) -> Option<(u64, &[u8])>
     }
 }
 
-/// A view of the one value that `bytes` spell before `rest`, which is the end of `bytes`.
+/// Returns a view of the value at the start of `bytes`. `rest` are the bytes that follow this value up to the
+/// end of `bytes`.
 #[inline(always)]
 pub fn view_before<'a>(bytes: &'a [u8], rest: &[u8]) -> View<'a>
     requires within { length rest.now ≤ length bytes.now }
@@ -217,7 +223,8 @@ pub fn view_before<'a>(bytes: &'a [u8], rest: &[u8]) -> View<'a>
     view_packed(&bytes[..bytes.len() - rest.len()])
 }
 
-/// The truth value at the start of `bytes` (nil means false), and the bytes after it.
+/// Reads a truth value at the start of `bytes`; nil means false. Returns the truth value and the bytes after
+/// it.
 #[inline(always)]
 fn read_flag(bytes: &[u8]) -> Option<(bool, &[u8])>
     ensures { IfSome result (λ x. Reads truth x.0 bytes.now x.1.now) }
@@ -234,7 +241,7 @@ fn read_flag(bytes: &[u8]) -> Option<(bool, &[u8])>
     }
 }
 
-/// Reads a number as `read_number` does, for a key that may appear only once: returns `None` if `found`
+/// Reads a number as `read_number` does, for a key that may appear only once. Returns `None` if `found`
 /// already has the number of an earlier pair.
 #[inline(always)]
 pub fn once_number(found: Option<u64>, bytes: &[u8]) -> Option<(u64, &[u8])>
@@ -247,7 +254,7 @@ pub fn once_number(found: Option<u64>, bytes: &[u8]) -> Option<(u64, &[u8])>
     }
 }
 
-/// Reads a text as `read_text` does, for a key that may appear only once: returns `None` if `found` already
+/// Reads a text as `read_text` does, for a key that may appear only once. Returns `None` if `found` already
 /// has the text of an earlier pair.
 #[inline(always)]
 pub fn once_text<'a>(found: Option<&[u8]>, bytes: &'a [u8]) -> Option<(&'a [u8], &'a [u8])>
@@ -260,7 +267,7 @@ pub fn once_text<'a>(found: Option<&[u8]>, bytes: &'a [u8]) -> Option<(&'a [u8],
     }
 }
 
-/// Reads a truth value as `read_flag` does, for a key that may appear only once: returns `None` if `found`
+/// Reads a truth value as `read_flag` does, for a key that may appear only once. Returns `None` if `found`
 /// already has the truth value of an earlier pair.
 #[inline(always)]
 pub fn once_flag(found: Option<bool>, bytes: &[u8]) -> Option<(bool, &[u8])>
@@ -273,7 +280,7 @@ pub fn once_flag(found: Option<bool>, bytes: &[u8]) -> Option<(bool, &[u8])>
     }
 }
 
-/// The bytes after `count` texts at the start of `bytes`.
+/// Skips `count` texts at the start of `bytes`, and returns the bytes after them.
 #[inline(always)]
 fn skip_texts(count: u64, bytes: &[u8]) -> Option<&[u8]>
     ensures { IfSome result (λ rest. AreItems 9 text count bytes.now rest.now) }
@@ -288,7 +295,7 @@ fn skip_texts(count: u64, bytes: &[u8]) -> Option<&[u8]>
     Some(rest)
 }
 
-/// The bytes after the list of texts at the start of `bytes`.
+/// Skips a list of texts at the start of `bytes`, and returns the bytes after it.
 #[inline(always)]
 fn skip_text_list(bytes: &[u8]) -> Option<&[u8]>
     ensures { IfSome result (λ rest. Spans 8 (list text) bytes.now rest.now) }
@@ -298,7 +305,7 @@ fn skip_text_list(bytes: &[u8]) -> Option<&[u8]>
     skip_texts(count, items)
 }
 
-/// The list of texts at the start of `bytes`, and the bytes after it.
+/// Reads a list of texts at the start of `bytes`. Returns the list and the bytes after it.
 fn read_texts(bytes: &[u8]) -> Option<(Texts<'_>, &[u8])>
     ensures { IfSome result (λ x. ReadsIn 8 (list text) (texts_left x.0) bytes.now x.1.now) }
 {
@@ -307,7 +314,7 @@ fn read_texts(bytes: &[u8]) -> Option<(Texts<'_>, &[u8])>
     Some((Texts::of(Some(list)), rest))
 }
 
-/// The bytes after an empty list, or nil, at the start of `bytes`.
+/// Skips an empty list or a nil at the start of `bytes`, and returns the bytes after it.
 #[inline(always)]
 fn read_no_texts(bytes: &[u8]) -> Option<&[u8]>
     ensures { IfSome result (λ rest. ReadsIn 8 (list text) [] bytes.now rest.now) }
@@ -323,8 +330,8 @@ fn read_no_texts(bytes: &[u8]) -> Option<&[u8]>
     }
 }
 
-/// The list of texts at the start of `bytes`, and the bytes after it, for a key that may appear only once:
-/// returns `None` if `found` already has the list of an earlier pair.
+/// Reads a list of texts at the start of `bytes`, for a key that may appear only once. Returns the list and
+/// the bytes after it, or `None` if `found` already has the list of an earlier pair.
 #[inline(always)]
 pub fn once_texts<'a>(found: Option<Texts<'a>>, bytes: &'a [u8]) -> Option<(Texts<'a>, &'a [u8])>
     ensures none { IfSome result (λ x. option_map texts_left found.entry ≡ None) }
@@ -339,7 +346,7 @@ pub fn once_texts<'a>(found: Option<Texts<'a>>, bytes: &'a [u8]) -> Option<(Text
     }
 }
 
-/// The number in `found`, or 0 if none was found.
+/// Returns the number in `found`, or 0 if no number was found.
 #[inline(always)]
 pub fn or_zero(found: Option<u64>) -> u64
     ensures { result ≡ unwrap_or found 0 }
@@ -350,7 +357,7 @@ pub fn or_zero(found: Option<u64>) -> u64
     }
 }
 
-/// The list of texts in `found`, or the empty list if none was found.
+/// Returns the list of texts in `found`, or the empty list if no list was found.
 #[inline(always)]
 pub fn or_none<'a>(found: Option<Texts<'a>>) -> Texts<'a>
     ensures { texts_left result ≡ unwrap_or (option_map texts_left found.entry) [] }

@@ -47,8 +47,8 @@ impl From<AllocError> for EncodeError {
     }
 }
 
-/// The canonical packet of a user event (type 3) whose texts fit in a packet, in a new vector that is
-/// allocated with exactly the packet's length.
+/// Returns the canonical packet of a user event (type 3) in a new vector. The vector is allocated with
+/// exactly the packet's length. The event's texts must fit in a packet.
 #[tactic(auto, unfolding(crate::specs::Canonical::canonical))]
 fn write_user_event(alloc: Global, event: &UserEvent) -> Result<Vec<u8>, AllocError>
     requires name { length event.now.name.now < 2 ^ 32 }
@@ -59,8 +59,8 @@ fn write_user_event(alloc: Global, event: &UserEvent) -> Result<Vec<u8>, AllocEr
 {
     let len = user_event_len(event);
     let mut out = Vec::with_capacity(alloc, len as usize)?;
-    // Each key is a constant together with its head, and the first one also with the type and the map's head,
-    // because events are fired often.
+    // Each key is a constant together with its head, because events are fired often. The first constant also
+    // contains the type and the map's head.
     out.extend_from_slice(b"\x03\x84\xa5LTime")?;
     write_unsigned(&mut out, event.time.get())?;
     out.extend_from_slice(b"\xa4Name")?;
@@ -72,7 +72,7 @@ fn write_user_event(alloc: Global, event: &UserEvent) -> Result<Vec<u8>, AllocEr
     Ok(out)
 }
 
-/// Appends the fields for the node that fired the query, and for the nodes that should answer it.
+/// Appends the fields for the node that fired the query, and for the nodes that should answer the query.
 fn write_query_route(out: &mut Vec<u8>, parts: &Query<&[Bytes]>) -> Result<(), AllocError>
     requires addr { length parts.now.addr.now < 2 ^ 32 }
     requires source { length parts.now.source.now < 2 ^ 32 }
@@ -91,7 +91,7 @@ fn write_query_route(out: &mut Vec<u8>, parts: &Query<&[Bytes]>) -> Result<(), A
     write_filters_field(out, b"Filters", parts.filters)
 }
 
-/// Appends the fields that say how the query should be answered: its flags, relay factor and timeout.
+/// Appends the fields that control how the query should be answered: its flags, relay factor and timeout.
 fn write_query_terms(out: &mut Vec<u8>, parts: &Query<&[Bytes]>) -> Result<(), AllocError>
     ensures flags { OnOk result (parts.now.flags < 2 ^ 32) }
     ensures relay_factor { OnOk result (parts.now.relay_factor < 2 ^ 8) }
@@ -106,7 +106,7 @@ fn write_query_terms(out: &mut Vec<u8>, parts: &Query<&[Bytes]>) -> Result<(), A
     write_timeout_field(out, parts)
 }
 
-/// Appends the fields of the question itself: the query's name and payload.
+/// Appends the fields with the query's content: its name and its payload.
 fn write_question(out: &mut Vec<u8>, parts: &Query<&[Bytes]>) -> Result<(), AllocError>
     requires name { length parts.now.name.now < 2 ^ 32 }
     requires payload { length parts.now.payload.now < 2 ^ 32 }
@@ -118,7 +118,8 @@ fn write_question(out: &mut Vec<u8>, parts: &Query<&[Bytes]>) -> Result<(), Allo
     write_text_field(out, b"Payload", parts.payload)
 }
 
-/// The canonical packet of a query (type 4) whose texts and filters fit in a packet, in a new vector.
+/// Returns the canonical packet of a query (type 4) in a new vector. The query's texts and filters must fit
+/// in a packet.
 #[tactic(auto, unfolding(crate::specs::Canonical::canonical, crate::specs::Canonical::has_long))]
 fn write_query(alloc: Global, parts: &Query<&[Bytes]>) -> Result<Vec<u8>, AllocError>
     requires { has_long (query (query_of parts.now)) ≡ false }
@@ -136,7 +137,8 @@ fn write_query(alloc: Global, parts: &Query<&[Bytes]>) -> Result<Vec<u8>, AllocE
     Ok(out)
 }
 
-/// The canonical packet of a response (type 5) whose texts fit in a packet, in a new vector.
+/// Returns the canonical packet of a response (type 5) in a new vector. The response's texts must fit in a
+/// packet.
 #[tactic(auto, unfolding(crate::specs::Canonical::canonical))]
 fn write_response(alloc: Global, response: &QueryResponse) -> Result<Vec<u8>, AllocError>
     requires from { length response.now.from.now < 2 ^ 32 }
@@ -156,7 +158,8 @@ fn write_response(alloc: Global, response: &QueryResponse) -> Result<Vec<u8>, Al
     Ok(out)
 }
 
-/// The canonical packet of a push/pull (type 2) whose texts and lists fit in a packet, in a new vector.
+/// Returns the canonical packet of a push/pull (type 2) in a new vector. Its texts and lists must fit in a
+/// packet.
 fn write_push_pull(alloc: Global, parts: &PushPullParts) -> Result<Vec<u8>, AllocError>
     requires { has_long (push_pull (push_pull_of parts.now)) ≡ false }
     ensures bytes { IfOk result (λ packet. packet.items ≡ parts_bytes parts.now) }
@@ -174,8 +177,8 @@ fn write_push_pull(alloc: Global, parts: &PushPullParts) -> Result<Vec<u8>, Allo
     Ok(out)
 }
 
-/// The canonical packet of a user event. Returns `TooLong` if the name or the payload is longer than
-/// 4,294,967,295 bytes, and otherwise `OutOfMemory` if there is no memory for the packet.
+/// Returns the canonical packet of a user event. Returns `TooLong` if the name or the payload is longer than
+/// 4,294,967,295 bytes. Otherwise, the call returns `OutOfMemory` if there is no memory for the packet.
 #[tactic(auto, unfolding(crate::specs::Canonical::has_long))]
 pub fn encode_user_event(alloc: Global, event: &UserEvent) -> Result<Vec<u8>, EncodeError>
     ensures canonical { IfOk result (λ packet. packet.items
@@ -192,8 +195,9 @@ pub fn encode_user_event(alloc: Global, event: &UserEvent) -> Result<Vec<u8>, En
     Ok(write_user_event(alloc, event)?)
 }
 
-/// The canonical packet of a query. Returns `TooLong` if a text has more than 4,294,967,295 bytes or the list
-/// of filters has more items than that, and otherwise `OutOfMemory` if there is no memory for the packet.
+/// Returns the canonical packet of a query. Returns `TooLong` if a text has more than 4,294,967,295 bytes or
+/// the list of filters has more items than that. Otherwise, the call returns `OutOfMemory` if there is no
+/// memory for the packet.
 pub fn encode_query(alloc: Global, parts: &Query<&[Bytes]>) -> Result<Vec<u8>, EncodeError>
     ensures canonical { IfOk result (λ packet. packet.items
         ≡ canonical (query (query_of parts.now))) }
@@ -208,8 +212,8 @@ pub fn encode_query(alloc: Global, parts: &Query<&[Bytes]>) -> Result<Vec<u8>, E
     Ok(write_query(alloc, parts)?)
 }
 
-/// The canonical packet of a query's response. Returns `TooLong` if the name or the payload is longer than
-/// 4,294,967,295 bytes, and otherwise `OutOfMemory` if there is no memory for the packet.
+/// Returns the canonical packet of a query's response. Returns `TooLong` if the name or the payload is longer
+/// than 4,294,967,295 bytes. Otherwise, the call returns `OutOfMemory` if there is no memory for the packet.
 #[tactic(auto, unfolding(crate::specs::Canonical::has_long))]
 pub fn encode_response(alloc: Global, response: &QueryResponse) -> Result<Vec<u8>, EncodeError>
     ensures canonical { IfOk result (λ packet. packet.items
@@ -226,9 +230,9 @@ pub fn encode_response(alloc: Global, response: &QueryResponse) -> Result<Vec<u8
     Ok(write_response(alloc, response)?)
 }
 
-/// The canonical packet of a push/pull, in which a slot without events is nil. Returns `TooLong` if a text
-/// has more than 4,294,967,295 bytes or a list has more items than that, and otherwise `OutOfMemory` if there
-/// is no memory for the packet.
+/// Returns the canonical packet of a push/pull, in which a slot without events is nil. Returns `TooLong` if a
+/// text has more than 4,294,967,295 bytes or a list has more items than that. Otherwise, the call returns
+/// `OutOfMemory` if there is no memory for the packet.
 pub fn encode_push_pull(alloc: Global, parts: &PushPullParts) -> Result<Vec<u8>, EncodeError>
     ensures canonical { IfOk result (λ packet. packet.items
         ≡ canonical (push_pull (push_pull_of parts.now))) }

@@ -1,5 +1,5 @@
-//! Finds the first error of a map. Offsets count from the packet's type byte, which is the byte before the
-//! map. This is the reason for each `+ 1`.
+//! Finds the first error of a map. The offset of an error counts from the packet's type byte, which is the
+//! byte before the map. So the code adds 1 to each offset within the map.
 
 ghost use Rattle.std.specs.Prelude.{◌≡◌, ◌++◌, ◌∷◌, [], List, Some, None, IfOk, IfErr, OnOk, IfNone};
 ghost use Rattle.serf_pack.specs.Tree.{Tree};
@@ -13,7 +13,7 @@ use crate::found::FoundFields;
 use crate::layout::{Kind, Layout, field_of};
 use serf_pack::View;
 
-/// Whether `key` is raw and its bytes are exactly `name`.
+/// Returns whether `key` is raw and its bytes are exactly `name`.
 pub fn is_name(key: &View, name: &[u8]) -> bool
     ensures { result ≡ is_text name.now (raw_of (tree_of key.now)) }
 {
@@ -23,7 +23,8 @@ pub fn is_name(key: &View, name: &[u8]) -> bool
     }
 }
 
-/// The error of `value` in a field of integers from 0 to `max`, if it has one. Nil has none.
+/// Checks `value` as the value of a field that holds an integer from 0 to `max`. Returns its error, if it has
+/// one. Nil is valid.
 fn natural_error(value: &View, max: u64) -> Option<WireError>
     ensures { result ≡ first (number_errors max (tree_of value.now)) }
 {
@@ -38,8 +39,8 @@ fn natural_error(value: &View, max: u64) -> Option<WireError>
     }
 }
 
-/// The error of `value` in a field of times, which are integers from 0 to 2^64 - 2, if it has one. Nil has
-/// none.
+/// Checks `value` as the value of a field that holds a time, an integer from 0 to 2^64 - 2. Returns its
+/// error, if it has one. Nil is valid.
 fn time_error(value: &View) -> Option<WireError>
     ensures { result ≡ first (time_errors (tree_of value.now)) }
 {
@@ -55,7 +56,8 @@ fn time_error(value: &View) -> Option<WireError>
     }
 }
 
-/// The error of `value` in a field of signed integers of 64 bits, if it has one. Nil has none.
+/// Checks `value` as the value of a field that holds a signed integer of 64 bits. Returns its error, if it
+/// has one. Nil is valid.
 fn signed_error(value: &View) -> Option<WireError>
     ensures { result ≡ first (signed_errors (tree_of value.now)) }
 {
@@ -72,7 +74,7 @@ fn signed_error(value: &View) -> Option<WireError>
     }
 }
 
-/// The error of `value` in a field of texts, if it has one. Nil has none.
+/// Checks `value` as the value of a field that holds a text. Returns its error, if it has one. Nil is valid.
 fn text_error(value: &View) -> Option<WireError>
     ensures { result ≡ first (text_errors (tree_of value.now)) }
 {
@@ -82,7 +84,8 @@ fn text_error(value: &View) -> Option<WireError>
     }
 }
 
-/// The error of `value` in a field of truth values, if it has one. Nil has none.
+/// Checks `value` as the value of a field that holds a truth value. Returns its error, if it has one. Nil is
+/// valid.
 fn flag_error(value: &View) -> Option<WireError>
     ensures { result ≡ first (truth_errors (tree_of value.now)) }
 {
@@ -92,7 +95,8 @@ fn flag_error(value: &View) -> Option<WireError>
     }
 }
 
-/// The first error of `value` in a field of lists of texts, if it has one. Nil has none.
+/// Checks `value` as the value of a field that holds a list of texts. Returns its first error, if it has one.
+/// Nil is valid.
 pub fn texts_error(value: &View) -> Option<WireError>
     ensures { result ≡ first (list_errors text_errors (tree_of value.now)) }
 {
@@ -110,7 +114,8 @@ pub fn texts_error(value: &View) -> Option<WireError>
     }
 }
 
-/// The first error of a member's `name` and `time` in the map of status times, if they have one.
+/// Checks a member's `name` and `time` in the map of status times. Returns their first error, if they have
+/// one.
 fn status_time_error(name: &View, time: &View) -> Option<WireError>
     ensures { result ≡ first (status_time_errors (tree_of name.now, tree_of time.now)) }
 {
@@ -120,7 +125,8 @@ fn status_time_error(name: &View, time: &View) -> Option<WireError>
     }
 }
 
-/// The first error of `value` in the field of status times, if it has one. Nil has none.
+/// Checks `value` as the value of the field with the status times. Returns its first error, if it has one.
+/// Nil is valid.
 fn status_error(value: &View) -> Option<WireError>
     ensures { result ≡ first (status_errors (tree_of value.now)) }
 {
@@ -138,8 +144,8 @@ fn status_error(value: &View) -> Option<WireError>
     }
 }
 
-/// The first error of `value` in a field of kind `kind`, if it has one. Lists of maps are checked up to
-/// `depth_left` levels deep.
+/// Checks `value` as the value of a field of the kind `kind`. Returns its first error, if it has one. Lists
+/// of maps are checked up to `depth_left` levels deep.
 #[cycle(errors)]
 fn value_error(depth_left: u8, kind: Kind, value: &View) -> Option<WireError>
     ensures { result ≡ first (value_errors depth_left kind (tree_of value.now)) }
@@ -161,8 +167,8 @@ fn value_error(depth_left: u8, kind: Kind, value: &View) -> Option<WireError>
     }
 }
 
-/// The first error of `value` in a field of lists of maps with the fields of `layout`, if it has one. Nil has
-/// none.
+/// Checks `value` as the value of a field that holds a list of maps with the fields of `layout`. Returns its
+/// first error, if it has one. Nil is valid.
 #[cycle(errors)]
 fn maps_error(depth_left: u8, layout: Layout, value: &View) -> Option<WireError>
     ensures { result
@@ -182,8 +188,8 @@ fn maps_error(depth_left: u8, layout: Layout, value: &View) -> Option<WireError>
     }
 }
 
-/// The first error of `value` as an item of a list of maps with the fields of `layout`, if it has one. Nil
-/// has none.
+/// Checks `value` as an item of a list of maps with the fields of `layout`. Returns its first error, if it
+/// has one. Nil is valid.
 #[cycle(errors)]
 fn map_error(depth_left: u8, layout: Layout, value: &View) -> Option<WireError>
     ensures { result ≡ first (map_errors (value_errors depth_left) layout (tree_of value.now)) }
@@ -198,8 +204,8 @@ fn map_error(depth_left: u8, layout: Layout, value: &View) -> Option<WireError>
     }
 }
 
-/// Stores `value` in `found` if `layout` knows the key. Returns the pair's first error, if it has one; then
-/// `found` must not be used any more.
+/// Stores `value` in `found` if `layout` knows `key`. Returns the first error of this pair, if it has one.
+/// After an error, `found` must not be used any more.
 #[cycle(errors)]
 fn find_pair<'a>(
     depth_left: u8,
@@ -228,7 +234,7 @@ fn find_pair<'a>(
     value_error(depth_left, field.kind, value)
 }
 
-/// The values of the fields of `map` that `layout` knows, or the first error of the map's pairs.
+/// Returns the values of those fields of `map` that `layout` knows, or the first error of the map's pairs.
 #[cycle(errors)]
 fn find_fields<'a>(
     depth_left: u8,
@@ -250,8 +256,8 @@ fn find_fields<'a>(
     Ok(found)
 }
 
-/// The values of the fields of `map` that `layout` knows, or the map's first error. Lists of maps are nested
-/// at most 2 deep: the slots of a push/pull, and their events.
+/// Returns the values of those fields of `map` that `layout` knows, or the map's first error. Lists of maps
+/// are nested at most 2 deep: the slots of a push/pull, and the events of a slot.
 pub fn find_known<'a>(layout: Layout, map: &View<'a>) -> Result<FoundFields<'a>, WireError>
     ensures found { IfOk result (λ found. Finds layout found (pairs_of (tree_of map.now))) }
     ensures none { OnOk result (first (layout_errors layout (pairs_of (tree_of map.now))) ≡ None) }

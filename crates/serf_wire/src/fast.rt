@@ -1,8 +1,8 @@
-//! Reads maps in compact spellings, in one pass: the keys are short, no key appears twice, and no key is
-//! unknown.
+//! Reads maps in compact spellings in one pass. The keys of these maps are short, no key appears twice, and
+//! no key is unknown.
 //!
-//! Nearly every user event and push/pull is such a map. The readers here return what the general readers
-//! return, and return `None` for any other spelling.
+//! Nearly every user event and every push/pull has such a map. For these maps, the readers here return the
+//! same result as the general readers. For a map in any other spelling, they return `None`.
 
 mod event;
 mod slots;

@@ -1,5 +1,5 @@
-//! Reads a field of a map without errors as a value of the field's kind. A field that is missing or nil is
-//! zero, empty or false.
+//! Reads the fields of a map that has no errors. If a field is missing or nil, its value is zero, empty or
+//! false.
 
 ghost use Rattle.std.specs.Prelude.{◌≡◌, ◌≤◌, [], false, unwrap_or};
 ghost use Rattle.std.specs.Option.{option_map};
@@ -11,7 +11,7 @@ use crate::errors::is_name;
 use serf_lamport::Time;
 use serf_pack::View;
 
-/// The value of the first pair of `map` whose key is `name`.
+/// Returns the value of the first pair of `map` whose key is `name`, if there is one.
 pub fn find_value<'a>(map: &View<'a>, name: &[u8]) -> Option<View<'a>>
     ensures { tree_or_nil (option_map tree_of result)
         ≡ value_of_key name.now (pairs_of (tree_of map.now)) }
@@ -24,7 +24,7 @@ pub fn find_value<'a>(map: &View<'a>, name: &[u8]) -> Option<View<'a>>
     None
 }
 
-/// The text in `value`, or the empty text if it isn't one.
+/// Returns the text in `value`, or the empty text if `value` isn't a text.
 pub fn text_of<'a>(value: &View<'a>) -> &'a [u8]
     ensures { result.now ≡ text_in (tree_of value.now) }
 {
@@ -34,7 +34,7 @@ pub fn text_of<'a>(value: &View<'a>) -> &'a [u8]
     }
 }
 
-/// The integer from 0 to `max` in `value`, or 0 if it isn't one.
+/// Returns the integer in `value`, or 0 if `value` isn't an integer from 0 to `max`.
 pub fn natural_of(value: &View, max: u64) -> u64
     ensures value { result ≡ number_in max (tree_of value.now) }
     ensures within { result ≤ max }
@@ -45,7 +45,8 @@ pub fn natural_of(value: &View, max: u64) -> u64
     }
 }
 
-/// The text in `value`, or the empty text if it isn't one or if the field is missing (`None`).
+/// Returns the text in `value`. Returns the empty text if `value` isn't a text, or if the field is missing
+/// (`None`).
 pub fn text_or_empty<'a>(value: Option<View<'a>>) -> &'a [u8]
     ensures { result.now ≡ text_in (tree_or_nil (option_map tree_of value.entry)) }
 {
@@ -55,7 +56,8 @@ pub fn text_or_empty<'a>(value: Option<View<'a>>) -> &'a [u8]
     }
 }
 
-/// The truth value in `value`, or false if it isn't one or if the field is missing (`None`).
+/// Returns the truth value in `value`. Returns false if `value` isn't a truth value, or if the field is
+/// missing (`None`).
 pub fn flag_or_false(value: Option<View>) -> bool
     ensures { result ≡ truth_in (tree_or_nil (option_map tree_of value.entry)) }
 {
@@ -68,7 +70,8 @@ pub fn flag_or_false(value: Option<View>) -> bool
     }
 }
 
-/// The integer from 0 to `max` in `value`, or 0 if it isn't one or if the field is missing (`None`).
+/// Returns the integer in `value`. Returns 0 if `value` isn't an integer from 0 to `max`, or if the field is
+/// missing (`None`).
 pub fn natural_or_zero(value: Option<View>, max: u64) -> u64
     ensures value { result ≡ number_in max (tree_or_nil (option_map tree_of value.entry)) }
     ensures within { result ≤ max }
@@ -79,7 +82,7 @@ pub fn natural_or_zero(value: Option<View>, max: u64) -> u64
     }
 }
 
-/// The time in `value`, or 0 if it isn't one or if the field is missing (`None`).
+/// Returns the time in `value`. Returns 0 if `value` isn't a time, or if the field is missing (`None`).
 pub fn time_or_zero(value: Option<View>) -> Time
     ensures { result ≡ time_in (tree_or_nil (option_map tree_of value.entry)) }
 {
@@ -89,7 +92,8 @@ pub fn time_or_zero(value: Option<View>) -> Time
     }
 }
 
-/// The signed integer of 64 bits in `value`, or 0 if it isn't one or if the field is missing (`None`).
+/// Returns the integer in `value`. Returns 0 if `value` isn't a signed integer of 64 bits, or if the field is
+/// missing (`None`).
 pub fn signed_or_zero(value: Option<View>) -> i64
     ensures { result ≡ signed_in (tree_or_nil (option_map tree_of value.entry)) }
 {

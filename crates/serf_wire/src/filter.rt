@@ -1,4 +1,4 @@
-//! Filters: which nodes should answer a query (Serf's `query.go`).
+//! Filters decide which nodes should answer a query (Serf's `query.go`).
 
 ghost use Rattle.std.specs.Prelude.{◌≡◌, ◌<◌, ◌^◌, ◌++◌, ◌∷◌, [], ◌↔◌, ◌||◌, ℕ, List, IsTrue, false, map, length, IfOk};
 ghost use Rattle.std.specs.List.{list_any, flat_map, Contains};
@@ -22,7 +22,7 @@ use std::alloc::{AllocError, Global};
 /// The type byte of a node filter.
 const NODE_FILTER: u8 = 0;
 
-/// Whether `text` is one of the texts of `list`.
+/// Returns whether `text` is one of the texts of `list`.
 fn has_text(list: &View, text: &[u8]) -> bool
     ensures { result ≡ list_any (λ t. bytes_eq t text.now) (list_in text_in (tree_of list.now)) }
 {
@@ -34,7 +34,7 @@ fn has_text(list: &View, text: &[u8]) -> bool
     false
 }
 
-/// Whether `value` is a list of texts, and `node` is one of them.
+/// Returns whether `value` is a list of texts that contains `node`.
 fn names(value: &View, node: &[u8]) -> bool
     ensures { result ≡ names_node node.now (tree_of value.now) }
 {
@@ -47,7 +47,7 @@ fn names(value: &View, node: &[u8]) -> bool
     }
 }
 
-/// Whether `bytes` are exactly one value, a list of texts, and `node` is one of them.
+/// Returns whether `bytes` are exactly one value, and this value is a list of texts that contains `node`.
 fn value_names(bytes: &[u8], node: &[u8]) -> bool
     ensures { result ≡ value_names_node node.now (whole_at 8 bytes.now) }
 {
@@ -57,7 +57,7 @@ fn value_names(bytes: &[u8], node: &[u8]) -> bool
     }
 }
 
-/// Whether `filter` is a node filter that names `node`.
+/// Returns whether `filter` is a node filter that names `node`.
 #[tactic(auto, unfolding(crate::specs::Passes::passes_of))]
 fn lets_pass(filter: &[u8], node: &[u8]) -> bool
     ensures { result ≡ passes_of filter.now node.now }
@@ -68,12 +68,12 @@ fn lets_pass(filter: &[u8], node: &[u8]) -> bool
     *kind == NODE_FILTER && value_names(body, node)
 }
 
-/// Whether `filter` lets the node with the name `node` pass.
+/// Returns whether `filter` lets the node with the name `node` pass.
 ///
-/// A node filter lets it pass if the filter's bytes are one array of names, each raw or nil (the empty name),
-/// and the node's name is one of them. Every other filter excludes every node: a tag filter, a filter of an
-/// unknown type, an empty filter (on which Serf panics), and a filter whose bytes aren't an array of this
-/// kind. Allocates no memory.
+/// A node filter lets the node pass if the filter's bytes are one array of names, each raw or nil (the empty
+/// name), and if the node's name is one of them. Every other filter excludes all nodes: a tag filter, a
+/// filter of an unknown type, an empty filter (on which Serf panics), and a filter whose bytes aren't an
+/// array of this kind. Allocates no memory.
 pub fn passes(filter: &[u8], node: &[u8]) -> bool
     ensures passes { IsTrue result ↔ Passes filter.now node.now }
     ensures exact { result ≡ passes_of filter.now node.now }
@@ -82,7 +82,7 @@ pub fn passes(filter: &[u8], node: &[u8]) -> bool
     lets_pass(filter, node)
 }
 
-/// The node filter of `names`, in a new vector: its type byte, and the list of names.
+/// Returns the node filter of `names` in a new vector: its type byte, followed by the list of names.
 fn write_node_filter(alloc: Global, names: &[&[u8]]) -> Result<Vec<u8>, AllocError>
     requires list { length names.now < 2 ^ 32 }
     requires items { list_any (λ t. is_long t.now) names.now ≡ false }
@@ -96,9 +96,9 @@ fn write_node_filter(alloc: Global, names: &[&[u8]]) -> Result<Vec<u8>, AllocErr
     Ok(out)
 }
 
-/// A filter that lets exactly the nodes with the given `names` pass. Returns `TooLong` if a name is longer
-/// than 4,294,967,295 bytes or there are more names than that, and otherwise `OutOfMemory` if there is no
-/// memory for the filter.
+/// Returns a filter that lets exactly the nodes with the given `names` pass. Returns `TooLong` if a name has
+/// more than 4,294,967,295 bytes, or if there are more names than that. Otherwise, the call returns
+/// `OutOfMemory` if there is no memory for the filter.
 pub fn node_filter(alloc: Global, names: &[&[u8]]) -> Result<Vec<u8>, EncodeError>
     ensures canonical { IfOk result (λ filter. filter.items
         ≡ canonical_filter (map (λ t. t.now) names.now)) }

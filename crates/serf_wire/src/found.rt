@@ -1,8 +1,9 @@
-//! The fields that a walk over a map's pairs has found: each value is at its field's place in the layout.
+//! Collects the values that a walk over the pairs of a map has found. Each value is at its field's place in
+//! the layout.
 
 use serf_pack::View;
 
-/// The maximum number of fields of a layout: those of a query.
+/// The maximum number of fields in a layout, which is the number of a query's fields.
 pub const MAX_FIELDS: usize = 11;
 
 /// The values that were found so far, each at its field's place.
@@ -19,7 +20,7 @@ impl<'a> FoundFields<'a> {
     ghost use Rattle.serf_wire.specs.Found.{found_at, trees_found, Finds};
     ghost use Rattle.serf_wire.specs.declared.layout.Layout.{Layout};
 
-    /// A new list, in which no value was found yet.
+    /// Returns a new list, in which no value has been found yet.
     pub fn new() -> FoundFields<'a>
         ensures { (layout : Layout) → Finds layout result [] }
     {
@@ -28,7 +29,7 @@ impl<'a> FoundFields<'a> {
         }
     }
 
-    /// The value that was found for the field at `place`, if there is one.
+    /// Returns the value that was found for the field at `place`, if there is one.
     pub fn at(&self, place: usize) -> Option<View<'a>>
         requires { place < MAX_FIELDS }
         ensures { option_map tree_of result ≡ found_at self.now place }

@@ -1,4 +1,4 @@
-//! Intents: a node announces that it joins, or that a node leaves (Serf's `messages.go`).
+//! Intents are announcements that a node joins or leaves (Serf's `messages.go`).
 
 ghost use Rattle.std.specs.Prelude.{◌≡◌, ◌↔◌, List, Ok, Err, None, IfOk, IfErr, IfSome, IsOkAnd, IsSomeAnd};
 ghost use Rattle.std.specs.Option.{option_map};
@@ -17,20 +17,21 @@ use crate::laws::laws_below;
 use crate::layout::{Class, Layout, class_for};
 use serf_lamport::Time;
 
-/// A node's announcement that it joins. Agents send it on, so that a member that was thought to have left
-/// counts as a member again.
+/// A node's announcement that it joins. Agents forward this announcement, so that a member that was thought
+/// to have left counts as a member again.
 #[derive(Clone, Copy)]
 pub struct Join<'a> {
-    /// The time of the announcement, by the member clock of the node that made it.
+    /// The time of the announcement, by the member clock of the node that made the announcement.
     pub time: Time,
     /// The name of the node that joins.
     pub node: &'a [u8],
 }
 
-/// The announcement that a node leaves, either by itself or because another node ordered it.
+/// The announcement that a node leaves. The node leaves by itself, or because another node ordered it to
+/// leave.
 #[derive(Clone, Copy)]
 pub struct Leave<'a> {
-    /// The time of the announcement, by the member clock of the node that made it.
+    /// The time of the announcement, by the member clock of the node that made the announcement.
     pub time: Time,
     /// The name of the node that leaves.
     pub node: &'a [u8],
@@ -54,7 +55,7 @@ pub enum IntentType {
     Leave,
 }
 
-/// The type of intent that has the type byte `kind`, if there is one.
+/// Returns the type of intent with the type byte `kind`, if there is one.
 fn intent_type_for(kind: u8) -> Option<IntentType>
     ensures { result ≡ intent_type_of kind }
 {
@@ -65,7 +66,7 @@ fn intent_type_for(kind: u8) -> Option<IntentType>
     }
 }
 
-/// The layout of the map of an intent of this type.
+/// Returns the layout of the map of an intent of this type.
 fn layout_for(intent: IntentType) -> Layout
     ensures { result ≡ intent_layout intent }
 {
@@ -75,7 +76,8 @@ fn layout_for(intent: IntentType) -> Layout
     }
 }
 
-/// The intent with the fields `found` of a map without errors, each at its place in the layout (`layout.rt`).
+/// Builds the intent from the fields `found` of a map without errors. Each field is at its place in the
+/// layout (`layout.rt`).
 fn intent_of_fields<'a>(intent: IntentType, found: &FoundFields<'a>) -> Intent<'a>
     ensures { (ps : List (Tree × Tree)) → Finds (intent_layout intent) found.now ps
         → intent_of result ≡ intent_in intent ps }
@@ -93,7 +95,8 @@ fn intent_of_fields<'a>(intent: IntentType, found: &FoundFields<'a>) -> Intent<'
     }
 }
 
-/// The intent whose map `bytes` spell after the type byte, or the packet's first error.
+/// Reads the intent whose map `bytes` spell after the type byte. Returns the intent or the packet's first
+/// error.
 fn read_map(intent: IntentType, bytes: &[u8]) -> Result<Intent<'_>, WireError>
     ensures { Gives intent_of result (read_intent_map intent bytes.now) }
 {
@@ -103,8 +106,8 @@ fn read_map(intent: IntentType, bytes: &[u8]) -> Result<Intent<'_>, WireError>
     }
 }
 
-/// The result for a packet whose type byte `kind` isn't an intent's: `None`, or `UnknownType` if no message
-/// has this type.
+/// Returns the result for a packet whose type byte `kind` isn't an intent's. The result is `UnknownType` if
+/// no message has this type, and `None` otherwise.
 fn no_intent<'a>(kind: u8) -> Result<Option<Intent<'a>>, WireError>
     ensures { Gives (option_map intent_of) result (other_message (class_of kind) kind) }
 {
@@ -114,7 +117,7 @@ fn no_intent<'a>(kind: u8) -> Result<Option<Intent<'a>>, WireError>
     }
 }
 
-/// The intent that `packet` spells, `None`, or the first error: the result of `read_intent`.
+/// Returns the intent that `packet` spells, `None`, or the packet's first error, as `read_intent` does.
 #[tactic(auto, unfolding(crate::specs::Intent::intent_read))]
 fn read_packet(packet: &[u8]) -> Result<Option<Intent<'_>>, WireError>
     ensures { Gives (option_map intent_of) result (intent_read packet.now) }
@@ -131,14 +134,15 @@ fn read_packet(packet: &[u8]) -> Result<Option<Intent<'_>>, WireError>
     }
 }
 
-/// The intent that a packet spells, with its keys in any order and its values in any spelling. Returns `None`
-/// if the packet's type is another message's, no matter what follows the type.
+/// Returns the intent that a packet spells, with its keys in any order and its values in any spelling.
+/// Returns `None` if the packet's type is that of another message, no matter what follows the type.
 ///
-/// A field that is missing or nil is zero: the time 0, the empty name, no prune. Unknown keys are ignored,
-/// and so is a prune in a join. The error is `Empty` if the packet is empty, and `UnknownType` if no message
-/// has its type. For the types 0 and 1, it is `Pack` if the bytes after the type are not a MessagePack value,
-/// then `NotAMap` if the value isn't a map, and then the map's first error, as in `decode`; 2^64 - 1 isn't a
-/// valid time. `decode` itself doesn't read intents. Allocates no memory.
+/// A field that is missing or nil is zero: the time 0, the empty name, or no prune. Unknown keys are ignored,
+/// and so is a prune field in a join. The error is `Empty` if the packet is empty, and `UnknownType` if no
+/// message has the packet's type. For the types 0 and 1, the error is `Pack` if the bytes after the type are
+/// not a MessagePack value, `NotAMap` if this value isn't a map, and in all other cases the map's first
+/// error, as in `decode`. 2^64 - 1 isn't a valid time. `decode` itself doesn't read intents. Allocates no
+/// memory.
 pub fn read_intent(packet: &[u8]) -> Result<Option<Intent<'_>>, WireError>
     // The packet spells the intent that is returned.
     ensures spells { IfOk result (λ o. IfSome o (λ i. SpellsIntent (intent_of i) packet.now)) }

@@ -22,13 +22,13 @@ const LEAVE: u8 = 0;
 /// The type byte of a join.
 const JOIN: u8 = 1;
 
-/// The length of the canonical packet of an intent, in bytes. If a name is longer than 4,294,967,295 bytes,
-/// no packet can contain it; its header then counts as five bytes. Allocates no memory.
+/// Returns the length of the canonical packet of an intent, in bytes. If a name is longer than 4,294,967,295
+/// bytes, no packet can contain it. The header of this name then counts as five bytes. Allocates no memory.
 pub fn intent_len(intent: &Intent) -> u128
     ensures { result ≡ length (canonical_intent (intent_of intent.now)) }
 {
-    // The constants 13 and 20 are what every packet of this type contains: the type byte, the map's header,
-    // the keys, and a leave's truth value.
+    // The constants 13 and 20 are the length of the parts that every packet of this type contains: the type
+    // byte, the map's header, the keys, and a leave's truth value.
     match *intent {
         Intent::Join(Join { time, node }) => 13 + number_len(time.get()) + text_len(node),
         Intent::Leave(Leave { time, node, .. }) => 20 + number_len(time.get()) + text_len(node),
@@ -47,7 +47,7 @@ fn write_time_and_node(out: &mut Vec<u8>, time: Time, node: &[u8]) -> Result<(),
     write_text_field(out, b"Node", node)
 }
 
-/// The canonical packet of a join, in a new vector.
+/// Returns the canonical packet of a join, in a new vector.
 fn write_join(alloc: Global, time: Time, node: &[u8]) -> Result<Vec<u8>, AllocError>
     requires { length node.now < 2 ^ 32 }
     ensures time { OnOk result (time < max_clock) }
@@ -61,7 +61,7 @@ fn write_join(alloc: Global, time: Time, node: &[u8]) -> Result<Vec<u8>, AllocEr
     Ok(out)
 }
 
-/// The canonical packet of a leave, in a new vector.
+/// Returns the canonical packet of a leave, in a new vector.
 fn write_leave(alloc: Global, time: Time, node: &[u8], prune: bool) -> Result<Vec<u8>, AllocError>
     requires { length node.now < 2 ^ 32 }
     ensures time { OnOk result (time < max_clock) }
@@ -76,7 +76,7 @@ fn write_leave(alloc: Global, time: Time, node: &[u8], prune: bool) -> Result<Ve
     Ok(out)
 }
 
-/// The name of the node that joins or leaves.
+/// Returns the name of the node that joins or leaves.
 fn node_of<'a>(intent: &Intent<'a>) -> &'a [u8]
     ensures { result.now ≡ intent_node (intent_of intent.now) }
 {
@@ -86,7 +86,7 @@ fn node_of<'a>(intent: &Intent<'a>) -> &'a [u8]
     }
 }
 
-/// The canonical packet of an intent whose name fits in a packet, in a new vector.
+/// Returns the canonical packet of an intent in a new vector. The name must fit in a packet.
 fn write_intent(alloc: Global, intent: &Intent) -> Result<Vec<u8>, AllocError>
     requires { is_long (intent_node (intent_of intent.now)) ≡ false }
     ensures time { OnOk result (intent_time (intent_of intent.now) < max_clock) }
@@ -99,9 +99,9 @@ fn write_intent(alloc: Global, intent: &Intent) -> Result<Vec<u8>, AllocError>
     }
 }
 
-/// The canonical packet of an intent: its fields are the time, the name and, for a leave, the prune, in this
-/// order. Returns `TooLong` if the name is longer than 4,294,967,295 bytes, and otherwise `OutOfMemory` if
-/// there is no memory for the packet.
+/// Returns the canonical packet of an intent. Its fields are the time, the name and, for a leave, the prune
+/// flag, in this order. Returns `TooLong` if the name is longer than 4,294,967,295 bytes. Otherwise, the call
+/// returns `OutOfMemory` if there is no memory for the packet.
 pub fn encode_intent(alloc: Global, intent: &Intent) -> Result<Vec<u8>, EncodeError>
     ensures canonical { IfOk result (λ packet. packet.items
         ≡ canonical_intent (intent_of intent.now)) }

@@ -1,4 +1,4 @@
-//! Reads the known keys of user events and push/pulls. Each key follows its raw header of one byte, which is
+//! Reads the known keys of user events and push/pulls. Each key follows its raw header, a single byte that is
 //! 0xa0 plus the key's length.
 
 ghost use Rattle.std.specs.Prelude.{◌≡◌, ◌++◌, IfSome};
@@ -14,7 +14,7 @@ pub enum EventKey {
     Cc,
 }
 
-/// A key of a state, the map of a push/pull.
+/// A key of a state, which is the map of a push/pull.
 #[derive(Clone, Copy)]
 pub enum StateKey {
     Time,
@@ -25,7 +25,7 @@ pub enum StateKey {
     QueryTime,
 }
 
-/// The key of a user event at the start of `bytes`, and the bytes after it.
+/// Reads a known key of a user event at the start of `bytes`. Returns the key and the bytes after it.
 #[inline(always)]
 pub fn read_event_key(bytes: &[u8]) -> Option<(EventKey, &[u8])>
     ensures { IfSome result (λ x. bytes.now ≡ raw_bytes (event_name x.0) ++ x.1.now) }
@@ -42,7 +42,8 @@ pub fn read_event_key(bytes: &[u8]) -> Option<(EventKey, &[u8])>
     }
 }
 
-/// The key of a state's map or list of members at the start of `bytes`, and the bytes after it.
+/// Reads the key `StatusLTimes` or `LeftMembers` of a state at the start of `bytes`. Returns the key and the
+/// bytes after it.
 #[inline(always)]
 fn read_members_key(bytes: &[u8]) -> Option<(StateKey, &[u8])>
     ensures { IfSome result (λ x. bytes.now ≡ raw_bytes (state_name x.0) ++ x.1.now) }
@@ -83,7 +84,8 @@ fn read_members_key(bytes: &[u8]) -> Option<(StateKey, &[u8])>
     }
 }
 
-/// The key of a state's clock of events or queries at the start of `bytes`, and the bytes after it.
+/// Reads the key `EventLTime` or `QueryLTime` of a state at the start of `bytes`. Returns the key and the
+/// bytes after it.
 #[inline(always)]
 fn read_clock_key(bytes: &[u8]) -> Option<(StateKey, &[u8])>
     ensures { IfSome result (λ x. bytes.now ≡ raw_bytes (state_name x.0) ++ x.1.now) }
@@ -121,7 +123,7 @@ fn read_clock_key(bytes: &[u8]) -> Option<(StateKey, &[u8])>
     }
 }
 
-/// The key of a state at the start of `bytes`, and the bytes after it.
+/// Reads a known key of a state at the start of `bytes`. Returns the key and the bytes after it.
 #[inline(always)]
 pub fn read_state_key(bytes: &[u8]) -> Option<(StateKey, &[u8])>
     ensures { IfSome result (λ x. bytes.now ≡ raw_bytes (state_name x.0) ++ x.1.now) }

@@ -1,4 +1,4 @@
-//! Laws that are true of all packets. Each function here does nothing; its clauses are the law.
+//! Laws that are true of all packets. Each function here does nothing; its clauses state the law.
 
 ghost use Rattle.serf_wire.specs.Below.{Below};
 ghost use Rattle.serf_wire.specs.Intent.{ReadsIntents, CanonicalIntents};
@@ -6,7 +6,7 @@ ghost use Rattle.serf_wire.specs.Laws.{DecodesBytes, DecodesInRange, DecodesSpel
 
 use serf_pack::{canonical_heads, exact_reading};
 
-/// The laws of `serf_pack` about spellings that this crate relies on.
+/// The laws of `serf_pack` about spellings on which this crate relies.
 #[inline(always)]
 pub(crate) fn laws_below()
     ensures { Below }
@@ -15,9 +15,9 @@ pub(crate) fn laws_below()
     canonical_heads();
 }
 
-/// Decoding, as a function of a byte list, is exact: it returns a message if and only if the bytes spell it,
-/// and an error if and only if it is the first one of bytes that spell no message. So a byte list spells at
-/// most one message.
+/// Decoding, as a function of a byte list, is exact. It returns a message if and only if the bytes spell this
+/// message. It returns an error if and only if the bytes spell no message and this is their first error. So a
+/// byte list spells at most one message.
 pub fn exact_decoding()
     ensures spells { DecodesSpelled }
     ensures error { DecodesMalformed }
@@ -33,32 +33,33 @@ pub fn decoded_ranges()
     laws_below();
 }
 
-/// If a packet consists of bytes, then the texts of each event that is decoded from it do too, including the
-/// events of a state. This has to be a law because the lists in definitions may contain any numbers.
+/// If a packet consists of bytes, then so do the texts of each event that is decoded from it, including the
+/// events of a state. This has to be a law, because a list in a definition may contain any numbers.
 pub fn decoded_texts()
     ensures { DecodesBytes }
 {
     laws_below();
 }
 
-/// The canonical packet of a message spells this message, but each slot without events becomes the empty
-/// slot.
+/// The canonical packet of a message spells this message, except that each slot without events becomes the
+/// empty slot.
 pub fn canonical_packets()
     ensures { CanonicalSpells }
 {
     laws_below();
 }
 
-/// The function by which the contracts of the crates above read a filter agrees with the relation `Passes`.
+/// The contracts of the crates that depend on this one use a function that reads a filter. This function
+/// agrees with the relation `Passes`.
 pub fn exact_filters()
     ensures { PassesExactly }
 {
     laws_below();
 }
 
-/// Reading an intent, as a function of a byte list, is exact: it returns an intent if and only if the bytes
-/// spell it, an error if and only if it is the first one of bytes that should be an intent and aren't, and
-/// nothing if and only if the bytes are another message's.
+/// Reading an intent, as a function of a byte list, is exact. It returns an intent if and only if the bytes
+/// spell this intent. It returns nothing if and only if the bytes belong to another message. It returns an
+/// error if and only if the bytes should be an intent but aren't, and this is their first error.
 pub fn exact_intents()
     ensures { ReadsIntents }
 {
@@ -72,8 +73,9 @@ pub fn canonical_intents()
     laws_below();
 }
 
-/// The list of a map's errors, of which `decode` and `read_intent` return the first, is in reading order:
-/// their places in the packet never fall. So no place before that of the first error has an error.
+/// `decode` and `read_intent` return the first of a map's errors. The list of these errors is in reading
+/// order: the places in the packet never fall from one error to the next. So no place before that of the
+/// first error has an error.
 pub fn ordered_errors()
     ensures { ErrorsInOrder }
 {}

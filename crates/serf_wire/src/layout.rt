@@ -1,11 +1,11 @@
-//! The messages that exist, and the fields of their maps (Serf's `messages.go`).
+//! Defines which messages exist, and the fields of their maps (Serf's `messages.go`).
 
 ghost use Rattle.std.specs.Prelude.{◌≡◌, Some};
 ghost use Rattle.std.specs.Str.{bytes_eq};
 ghost use Rattle.serf_wire.specs.declared.layout.Layout.TheVariants as layouts;
 ghost use Rattle.serf_wire.specs.Layout.{class_of, fields_of, field_in, layout_of, rows_of};
 
-/// The layouts of maps: one for each kind of map whose keys are known.
+/// The layouts of maps. There is one for each kind of map whose keys are known.
 #[derive(Clone, Copy)]
 pub enum Layout {
     UserEvent,
@@ -27,12 +27,12 @@ pub enum MessageType {
     PushPull,
 }
 
-/// What follows a packet's type byte.
+/// The content that follows a packet's type byte.
 #[derive(Clone, Copy)]
 pub enum Class {
-    /// A map with the fields of this message.
+    /// A map with the fields of this message follows.
     Read(MessageType),
-    /// Any bytes, because messages of this type are not read.
+    /// Any bytes follow, because messages of this type are not read.
     Foreign,
     /// No message has this type.
     Unknown,
@@ -66,7 +66,7 @@ pub struct Field {
     pub kind: Kind,
 }
 
-/// What follows the type byte `kind`.
+/// Returns the class of content that follows the type byte `kind`.
 pub fn class_for(kind: u8) -> Class
     ensures { result ≡ class_of kind }
 {
@@ -80,7 +80,7 @@ pub fn class_for(kind: u8) -> Class
     }
 }
 
-/// The layout of the map of `message`.
+/// Returns the layout of the map of `message`.
 pub fn layout_for(message: MessageType) -> Layout
     ensures { result ≡ layout_of message }
 {
@@ -92,7 +92,7 @@ pub fn layout_for(message: MessageType) -> Layout
     }
 }
 
-/// Whether `name`, the bytes of a key, is equal to the `known` key.
+/// Returns whether `name`, the bytes of a key, is equal to the `known` key.
 fn is_name(name: &[u8], known: &[u8]) -> bool
     ensures { result ≡ bytes_eq name.now known.now }
 {
@@ -106,7 +106,7 @@ pub struct NamedField {
     pub kind: Kind,
 }
 
-/// The field whose key is `name`, if a map with the fields `fields`, in their canonical order, has one.
+/// Returns the field whose key is `name`, if there is one among `fields`, which are in their canonical order.
 #[tactic(auto, using(crate::proofs::TableLaws::field_here, crate::proofs::TableLaws::none_here, crate::proofs::TableLaws::none_there))]
 fn field_among(fields: &[NamedField], name: &[u8]) -> Option<Field>
     ensures { result ≡ field_in 0 name.now (rows_of fields.now) }
@@ -122,7 +122,7 @@ fn field_among(fields: &[NamedField], name: &[u8]) -> Option<Field>
     None
 }
 
-/// The field of `layout` whose key is `name`, if it has one.
+/// Returns the field of `layout` whose key is `name`, if there is one.
 pub fn field_of(layout: Layout, name: &[u8]) -> Option<Field>
     ensures { result ≡ field_in 0 name.now (fields_of layout) }
 {

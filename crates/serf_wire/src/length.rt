@@ -1,5 +1,6 @@
-//! Computes the lengths of canonical packets, in bytes. The constant in each sum is what every packet of that
-//! type contains: the type byte, the map's header, the keys, and one byte for each truth value.
+//! Computes the lengths of canonical packets, in bytes. Every packet of a type contains the type byte, the
+//! map's header, the keys, and one byte for each truth value. The constant in each sum is the length of these
+//! parts.
 
 ghost use Rattle.std.specs.Prelude.{◌≡◌, ◌<◌, ◌≤◌, ◌*◌, ◌+◌, ◌^◌, length};
 ghost use Rattle.std.specs.List.{flat_map};
@@ -10,7 +11,7 @@ ghost use Rattle.serf_wire.specs.Canonical.{list_bytes, canonical};
 use crate::message::{Query, QueryResponse, UserEvent};
 use crate::texts::Bytes;
 
-/// The length of a text in a packet with its header, in bytes.
+/// Returns the length of a text in a packet, with its header, in bytes.
 pub fn text_len(text: &[u8]) -> u128
     ensures value { result ≡ length (raw_bytes text.now) }
     ensures small { result < 2 ^ 64 }
@@ -25,7 +26,7 @@ pub fn text_len(text: &[u8]) -> u128
     }
 }
 
-/// The length of a number in a packet with its header, in bytes.
+/// Returns the length of a number in a packet, with its header, in bytes.
 pub fn number_len(number: u64) -> u128
     ensures value { result ≡ length (uint_bytes number) }
     ensures small { result < 10 }
@@ -43,7 +44,7 @@ pub fn number_len(number: u64) -> u128
     }
 }
 
-/// The length of a query's timeout in a packet with its header, in bytes.
+/// Returns the length of a query's timeout in a packet, with its header, in bytes.
 fn timeout_len(parts: &Query<&[Bytes]>) -> u128
     ensures value { result ≡ length (int_bytes parts.now.timeout) }
     ensures small { result < 10 }
@@ -64,7 +65,7 @@ fn timeout_len(parts: &Query<&[Bytes]>) -> u128
     }
 }
 
-/// The length of the header of an array of `count` items, in bytes.
+/// Returns the length of the header of an array of `count` items, in bytes.
 fn array_head_len(count: usize) -> u128
     ensures value { result ≡ length (array_head count) }
     ensures small { result < 10 }
@@ -78,7 +79,7 @@ fn array_head_len(count: usize) -> u128
     }
 }
 
-/// The length of the items of a list of filters, each with its header, in bytes.
+/// Returns the length of the items of a list of filters, each with its header, in bytes.
 fn filters_len(filters: &[Bytes]) -> u128
     ensures value { result ≡ length (flat_map raw_bytes filters.now) }
     ensures small { result ≤ length filters.now * 2 ^ 64 }
@@ -90,7 +91,7 @@ fn filters_len(filters: &[Bytes]) -> u128
     total
 }
 
-/// The length of a query's texts and of its list of filters with their headers, in bytes.
+/// Returns the length of a query's texts and of its list of filters, with their headers, in bytes.
 fn query_texts_len(parts: &Query<&[Bytes]>) -> u128
     ensures value { result
         ≡ length (raw_bytes parts.now.addr.now) + length (raw_bytes parts.now.source.now)
@@ -106,7 +107,7 @@ fn query_texts_len(parts: &Query<&[Bytes]>) -> u128
         + filters_len(parts.filters)
 }
 
-/// The length of a query's numbers with their headers, in bytes.
+/// Returns the length of a query's numbers, with their headers, in bytes.
 fn query_numbers_len(parts: &Query<&[Bytes]>) -> u128
     ensures value { result ≡ length (uint_bytes parts.now.time) + length (uint_bytes parts.now.id)
         + length (uint_bytes parts.now.port) + length (uint_bytes parts.now.flags)
@@ -121,8 +122,9 @@ fn query_numbers_len(parts: &Query<&[Bytes]>) -> u128
         + timeout_len(parts)
 }
 
-/// The length of the canonical packet of a user event, in bytes. If a text is longer than 4,294,967,295
-/// bytes, no packet can contain it; its header then counts as five bytes. Allocates no memory.
+/// Returns the length of the canonical packet of a user event, in bytes. If a text is longer than
+/// 4,294,967,295 bytes, no packet can contain it. The header of this text then counts as five bytes.
+/// Allocates no memory.
 #[tactic(auto, unfolding(crate::specs::Canonical::canonical))]
 pub fn user_event_len(event: &UserEvent) -> u128
     ensures { result ≡ length (canonical (user_event (event_said event.now))) }
@@ -130,8 +132,9 @@ pub fn user_event_len(event: &UserEvent) -> u128
     25 + number_len(event.time.get()) + text_len(event.name) + text_len(event.payload)
 }
 
-/// The length of the canonical packet of a query, in bytes. If a text or a list has more than 4,294,967,295
-/// bytes or items, no packet can contain it; its header then counts as five bytes. Allocates no memory.
+/// Returns the length of the canonical packet of a query, in bytes. If a text or a list has more than
+/// 4,294,967,295 bytes or items, no packet can contain it. Its header then counts as five bytes. Allocates no
+/// memory.
 #[tactic(auto, unfolding(crate::specs::Canonical::canonical))]
 pub fn query_len(parts: &Query<&[Bytes]>) -> u128
     ensures { result ≡ length (canonical (query (query_of parts.now))) }
@@ -139,8 +142,9 @@ pub fn query_len(parts: &Query<&[Bytes]>) -> u128
     79 + query_numbers_len(parts) + query_texts_len(parts)
 }
 
-/// The length of the canonical packet of a query's response, in bytes. If a text is longer than 4,294,967,295
-/// bytes, no packet can contain it; its header then counts as five bytes. Allocates no memory.
+/// Returns the length of the canonical packet of a query's response, in bytes. If a text is longer than
+/// 4,294,967,295 bytes, no packet can contain it. The header of this text then counts as five bytes.
+/// Allocates no memory.
 #[tactic(auto, unfolding(crate::specs::Canonical::canonical))]
 pub fn response_len(response: &QueryResponse) -> u128
     ensures { result ≡ length (canonical (query_response (response_said response.now))) }

@@ -1,10 +1,10 @@
-//! The gossip messages that carry user events and queries (Serf's `messages.go`).
+//! Reads and writes the gossip messages that carry user events and queries (Serf's `messages.go`).
 //!
-//! A packet is a type byte, followed by one MessagePack value. `decode` reads it in place, without allocating
-//! memory, in every spelling that MessagePack has, and returns the message or the packet's first error. The
-//! encoders write the one canonical packet of a message. `passes` says which nodes should answer a query.
-//! `read_intent` and `encode_intent` read and write the two intents, joins and leaves, for hosts that handle
-//! members; `decode` doesn't read intents.
+//! A packet is a type byte, followed by one MessagePack value. `decode` reads a packet in place, without
+//! allocating memory, and accepts every spelling that MessagePack has. It returns the message or the packet's
+//! first error. The encoders write the one canonical packet of a message. `passes` decides whether a node
+//! should answer a query. `read_intent` and `encode_intent` read and write the two intents, joins and leaves,
+//! for hosts that handle members. `decode` doesn't read intents.
 #![tactic(auto)]
 
 mod borrowed_slots;

@@ -1,4 +1,4 @@
-//! The lists of a packet, which are read in place and never copied.
+//! The lists of a packet. They are read in place and never copied.
 
 ghost use Rattle.std.specs.Prelude.{◌≡◌};
 ghost use Rattle.serf_pack.specs.View.{tree_of};
@@ -16,14 +16,14 @@ pub struct Texts<'a> {
     items: Option<Items<'a>>,
 }
 
-/// A member's name, and the member clock's time of its status.
+/// A member's name, and the Lamport time of its status by the member clock.
 #[derive(Clone, Copy)]
 pub struct StatusTime<'a> {
     pub name: &'a [u8],
     pub time: u64,
 }
 
-/// The names with their times that haven't been read yet. A name may appear twice.
+/// The names and status times of members that haven't been read yet. A name may appear twice.
 #[derive(Clone, Copy)]
 pub struct StatusTimes<'a> {
     pairs: Option<Pairs<'a>>,
@@ -42,16 +42,16 @@ pub struct EventViews<'a> {
     items: Items<'a>,
 }
 
-/// A slot of an event buffer: nothing, or a time and its events.
+/// A slot of an event buffer. It is empty, or it has a time and the events of this time.
 #[derive(Clone, Copy)]
 pub enum SlotView<'a> {
     Empty,
-    /// A time with its only event. A slot with one event may also be `Held`.
+    /// A time and its only event. A slot with one event may also be `Held`.
     Single(Time, EventView<'a>),
     Held(Time, EventViews<'a>),
 }
 
-/// The slots that haven't been read yet.
+/// The slots of an event buffer that haven't been read yet.
 #[derive(Clone, Copy)]
 pub struct SlotViews<'a> {
     items: Items<'a>,
@@ -64,7 +64,7 @@ impl<'a> Texts<'a> {
     ghost use Rattle.serf_wire.specs.Lookups.{text_in, list_in, tree_or_nil};
     ghost use Rattle.serf_wire.specs.Lists.{texts_left};
 
-    /// The texts of `list`, if each of its items is a text. `None` has no texts.
+    /// Returns the texts of `list`, if each of its items is a text. If `list` is `None`, there are no texts.
     #[inline(always)]
     pub(crate) fn of(list: Option<View<'a>>) -> Texts<'a>
         ensures { texts_left result
@@ -86,7 +86,8 @@ impl<'a> StatusTimes<'a> {
     ghost use Rattle.serf_wire.specs.Lookups.{status_in, tree_or_nil};
     ghost use Rattle.serf_wire.specs.Lists.{status_left};
 
-    /// The names and times of `map`, if each of its pairs is a name and a time. `None` has no pairs.
+    /// Returns the names and times of `map`, if each of its pairs is a name and a time. If `map` is `None`,
+    /// there are none.
     #[inline(always)]
     pub(crate) fn of(map: Option<View<'a>>) -> StatusTimes<'a>
         ensures { status_left result ≡ status_in (tree_or_nil (option_map tree_of map.entry)) }
@@ -107,7 +108,8 @@ impl<'a> EventViews<'a> {
     ghost use Rattle.serf_wire.specs.Lookups.{list_in, tree_or_nil, event_body_in};
     ghost use Rattle.serf_wire.specs.Lists.{events_left};
 
-    /// The events of `list`, if each of its items is an event. `None` has no events.
+    /// Returns the events of `list`, if each of its items is an event. If `list` is `None`, there are no
+    /// events.
     #[inline(always)]
     pub(crate) fn of(list: Option<View<'a>>) -> EventViews<'a>
         ensures { events_left result
@@ -131,7 +133,7 @@ impl<'a> SlotViews<'a> {
     ghost use Rattle.serf_wire.specs.Lookups.{list_in, tree_or_nil, slot_in};
     ghost use Rattle.serf_wire.specs.Lists.{slots_left};
 
-    /// The slots of `list`, if each of its items is a slot. `None` has no slots.
+    /// Returns the slots of `list`, if each of its items is a slot. If `list` is `None`, there are no slots.
     #[inline(always)]
     pub(crate) fn of(list: Option<View<'a>>) -> SlotViews<'a>
         ensures { slots_left result
@@ -154,7 +156,7 @@ impl<'a> EventView<'a> {
     ghost use Rattle.serf_wire.specs.Lookups.{event_body_in};
     ghost use Rattle.serf_wire.specs.Lists.{event_of_view};
 
-    /// The event in `value`, if it is one.
+    /// Returns the event in `value`, if `value` is an event.
     pub(crate) fn of(value: &View<'a>) -> EventView<'a>
         ensures { event_of_view result ≡ event_body_in (tree_of value.now) }
     {
@@ -171,7 +173,7 @@ impl<'a> SlotView<'a> {
     ghost use Rattle.serf_wire.specs.Lookups.{slot_in};
     ghost use Rattle.serf_wire.specs.Lists.{slot_of_view};
 
-    /// The slot in `value`, if it is one. Nil is the empty slot.
+    /// Returns the slot in `value`, if `value` is a slot. Nil is the empty slot.
     pub(crate) fn of(value: &View<'a>) -> SlotView<'a>
         ensures { slot_of_view result ≡ slot_in (tree_of value.now) }
     {
@@ -185,7 +187,7 @@ impl<'a> SlotView<'a> {
     }
 }
 
-/// The member's name and time from a pair of a map.
+/// Returns the member's name and status time in a pair of a map.
 fn status_time_at<'a>(name: &View<'a>, time: &View<'a>) -> StatusTime<'a>
     ensures { status_of result ≡ status_time_in (tree_of name.now, tree_of time.now) }
 {

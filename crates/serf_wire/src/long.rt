@@ -10,17 +10,17 @@ use crate::lists::StatusTime;
 use crate::message::{PushPullParts, Query};
 use crate::texts::{Bytes, EventBody, Slot};
 
-/// The maximum number of bytes of a text, or of items of a list, that a header can state.
+/// The maximum number of bytes of a text, or of items of a list, that a header in a packet can state.
 pub const LONGEST: usize = 4_294_967_295;
 
-/// Whether a text is longer than 4,294,967,295 bytes.
+/// Returns whether a text is longer than 4,294,967,295 bytes.
 pub fn is_long_text(text: &[u8]) -> bool
     ensures { result ≡ is_long text.now }
 {
     text.len() > LONGEST
 }
 
-/// Whether one of the filters is longer than 4,294,967,295 bytes.
+/// Returns whether one of the filters is longer than 4,294,967,295 bytes.
 fn has_long_filter(filters: &[Bytes]) -> bool
     ensures { result ≡ list_any is_long filters.now }
 {
@@ -32,7 +32,7 @@ fn has_long_filter(filters: &[Bytes]) -> bool
     false
 }
 
-/// Whether one of the texts is longer than 4,294,967,295 bytes.
+/// Returns whether one of the texts is longer than 4,294,967,295 bytes.
 pub fn has_long_text(texts: &[&[u8]]) -> bool
     ensures { result ≡ list_any (λ t. is_long t.now) texts.now }
 {
@@ -44,7 +44,7 @@ pub fn has_long_text(texts: &[&[u8]]) -> bool
     false
 }
 
-/// Whether one of the members' names is longer than 4,294,967,295 bytes.
+/// Returns whether one of the members' names is longer than 4,294,967,295 bytes.
 fn has_long_name(status: &[StatusTime]) -> bool
     ensures { result ≡ list_any (λ s. is_long s.name.now) status.now }
 {
@@ -56,7 +56,7 @@ fn has_long_name(status: &[StatusTime]) -> bool
     false
 }
 
-/// Whether one of the events has a name or a payload of more than 4,294,967,295 bytes.
+/// Returns whether one of the events has a name or a payload of more than 4,294,967,295 bytes.
 fn has_long_event(events: &[EventBody]) -> bool
     ensures { result ≡ list_any is_long_event events.now }
 {
@@ -68,8 +68,8 @@ fn has_long_event(events: &[EventBody]) -> bool
     false
 }
 
-/// Whether one of the slots has more than 4,294,967,295 events, or an event with a text of more bytes than
-/// that.
+/// Returns whether one of the slots has more than 4,294,967,295 events, or an event whose name or payload has
+/// more than 4,294,967,295 bytes.
 fn has_long_slot(slots: &[Slot]) -> bool
     ensures { result ≡ list_any (λ s. is_long_slot (slot_content s)) slots.now }
 {
@@ -82,7 +82,7 @@ fn has_long_slot(slots: &[Slot]) -> bool
     false
 }
 
-/// Whether a text or a list of the query is too long.
+/// Returns whether a text or a list of the query is too long for a packet.
 #[tactic(auto, unfolding(crate::specs::Canonical::has_long))]
 pub fn is_long_query(parts: &Query<&[Bytes]>) -> bool
     ensures { result ≡ has_long (query (query_of parts.now)) }
@@ -95,7 +95,7 @@ pub fn is_long_query(parts: &Query<&[Bytes]>) -> bool
         || is_long_text(parts.payload)
 }
 
-/// Whether a text or a list of the push/pull is too long.
+/// Returns whether a text or a list of the push/pull is too long for a packet.
 #[tactic(auto, unfolding(crate::specs::Canonical::has_long))]
 pub fn is_long_push_pull(parts: &PushPullParts) -> bool
     ensures { result ≡ has_long (push_pull (push_pull_of parts.now)) }

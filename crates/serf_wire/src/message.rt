@@ -1,4 +1,4 @@
-//! Messages that were read from a packet, and messages that are passed in to be written.
+//! Messages that were read from a packet, and messages that are going to be written.
 
 use crate::borrowed_slots::BorrowedEventSlots;
 use crate::lists::{SlotViews, StatusTime, StatusTimes, Texts};
@@ -16,8 +16,8 @@ pub struct UserEvent<'a> {
 
 /// A query, as it was fired.
 ///
-/// If it was read from a packet, its filters are [`Texts`] of this packet. If it is going to be written, they
-/// are a slice of [`Bytes`](crate::Bytes).
+/// If the query was read from a packet, its filters are [`Texts`] of this packet. If the query is going to be
+/// written, its filters are a slice of [`Bytes`](crate::Bytes).
 #[derive(Clone, Copy)]
 pub struct Query<'a, F = Texts<'a>> {
     pub time: Time,
@@ -27,19 +27,19 @@ pub struct Query<'a, F = Texts<'a>> {
     pub port: u16,
     /// The name of the node that fired the query.
     pub source: &'a [u8],
-    /// The filters. The nodes that every filter lets pass should answer.
+    /// The filters. Every node that all filters let pass should answer.
     pub filters: F,
-    /// A set of flags: 1 requests acks, and 2 forbids rebroadcasting.
+    /// A set of flags: the flag 1 requests acks, and the flag 2 forbids rebroadcasting.
     pub flags: u32,
     /// How many nodes should relay each response.
     pub relay_factor: u8,
-    /// How long answers are accepted, in nanoseconds.
+    /// How long the node that fired the query accepts answers, in nanoseconds.
     pub timeout: i64,
     pub name: &'a [u8],
     pub payload: &'a [u8],
 }
 
-/// A node's answer to a query.
+/// A node's answer to a query: a response or an ack.
 #[derive(Clone, Copy)]
 pub struct QueryResponse<'a> {
     /// The query's time. Any number of 64 bits is allowed.
@@ -47,42 +47,42 @@ pub struct QueryResponse<'a> {
     pub id: u32,
     /// The name of the node that answers.
     pub from: &'a [u8],
-    /// A set of flags: 1 marks an ack.
+    /// A set of flags: the flag 1 marks an ack.
     pub flags: u32,
     pub payload: &'a [u8],
 }
 
-/// A node's whole state, whose lists are read in place from the packet.
+/// The whole state of a node, as read from a packet. The lists are read in place.
 #[derive(Clone, Copy)]
 pub struct PushPull<'a> {
-    /// The member clock's number.
+    /// The value of the member clock.
     pub member_clock: u64,
     /// The members' status times.
     pub status: StatusTimes<'a>,
     /// The names of the members that have left.
     pub left: Texts<'a>,
-    /// The event clock's number.
+    /// The value of the event clock.
     pub event_clock: u64,
     /// The slots of the event buffer.
     pub slots: SlotViews<'a>,
-    /// The query clock's number.
+    /// The value of the query clock.
     pub query_clock: u64,
 }
 
-/// A node's whole state, whose lists are passed in to be written.
+/// The whole state of a node, as it is going to be written. The caller passes the lists in.
 #[derive(Clone, Copy)]
 pub struct PushPullParts<'a> {
-    /// The member clock's number.
+    /// The value of the member clock.
     pub member_clock: u64,
     /// The members' status times.
     pub status: &'a [StatusTime<'a>],
     /// The names of the members that have left.
     pub left: &'a [&'a [u8]],
-    /// The event clock's number.
+    /// The value of the event clock.
     pub event_clock: u64,
     /// The slots of the event buffer.
     pub slots: BorrowedEventSlots<'a>,
-    /// The query clock's number.
+    /// The value of the query clock.
     pub query_clock: u64,
 }
 

@@ -1,4 +1,4 @@
-//! Decodes a packet: returns its message, or its first error.
+//! Decodes a packet: returns its message or its first error.
 
 ghost use Rattle.std.specs.Prelude.{◌≡◌, ◌<◌, ◌^◌, List, Ok, Err, IfOk, IfErr, IfSome, IsOkAnd};
 ghost use Rattle.std.specs.Option.{option_map};
@@ -24,8 +24,8 @@ use crate::layout::{Class, MessageType, class_for, layout_for};
 use crate::lists::{SlotViews, StatusTimes, Texts};
 use crate::message::{Message, PushPull, Query, QueryResponse, UserEvent};
 
-/// The message with the fields `found` of a map without errors, each at its place in the layout
-/// (`layout.rt`).
+/// Builds the message from the fields `found` of a map without errors. Each field is at its place in the
+/// layout (`layout.rt`).
 fn message_of_fields<'a>(message: MessageType, found: &FoundFields<'a>) -> Message<'a>
     ensures { (ps : List (Tree × Tree)) → Finds (layout_of message) found.now ps
         → message_of result ≡ message_in message ps }
@@ -68,7 +68,8 @@ fn message_of_fields<'a>(message: MessageType, found: &FoundFields<'a>) -> Messa
     }
 }
 
-/// The message whose map `bytes` spell after the type byte, in any spelling, or the packet's first error.
+/// Reads the message whose map `bytes` spell after the type byte, in any spelling. Returns the message or the
+/// packet's first error.
 #[inline(never)]
 fn read_checked(message: MessageType, bytes: &[u8]) -> Result<Message<'_>, WireError>
     ensures { Gives message_of result (read_value message (whole_at 8 bytes.now)) }
@@ -79,8 +80,8 @@ fn read_checked(message: MessageType, bytes: &[u8]) -> Result<Message<'_>, WireE
     }
 }
 
-/// The user event whose map `bytes` spell, or the packet's first error. A map in a compact spelling is read
-/// in one pass.
+/// Reads the user event whose map `bytes` spell. Returns the event or the packet's first error. A map in a
+/// compact spelling is read in one pass.
 #[inline(always)]
 fn read_event_map(bytes: &[u8]) -> Result<Message<'_>, WireError>
     ensures { Gives message_of result (read_value MessageType.UserEvent (whole_at 8 bytes.now)) }
@@ -92,7 +93,7 @@ fn read_event_map(bytes: &[u8]) -> Result<Message<'_>, WireError>
     }
 }
 
-/// The user event whose map `bytes` spell, in any spelling, if they spell one.
+/// Returns the user event whose map `bytes` spell, in any spelling, or `None` if they spell no user event.
 #[inline(never)]
 fn event_checked(bytes: &[u8]) -> Option<UserEvent<'_>>
     ensures { GivesEvent result (read_value MessageType.UserEvent (whole_at 8 bytes.now)) }
@@ -103,8 +104,8 @@ fn event_checked(bytes: &[u8]) -> Option<UserEvent<'_>>
     }
 }
 
-/// The user event whose map `bytes` spell, if they spell one. A map in a compact spelling is read in one
-/// pass.
+/// Returns the user event whose map `bytes` spell, or `None` if they spell no user event. A map in a compact
+/// spelling is read in one pass.
 #[inline(always)]
 fn event_in_map(bytes: &[u8]) -> Option<UserEvent<'_>>
     ensures { GivesEvent result (read_value MessageType.UserEvent (whole_at 8 bytes.now)) }
@@ -116,8 +117,8 @@ fn event_in_map(bytes: &[u8]) -> Option<UserEvent<'_>>
     }
 }
 
-/// The push/pull whose map `bytes` spell, or the packet's first error. A map in a compact spelling is read in
-/// one pass.
+/// Reads the push/pull whose map `bytes` spell. Returns the push/pull or the packet's first error. A map in a
+/// compact spelling is read in one pass.
 fn read_state_map(bytes: &[u8]) -> Result<Message<'_>, WireError>
     ensures { Gives message_of result (read_value MessageType.PushPull (whole_at 8 bytes.now)) }
 {
@@ -128,7 +129,8 @@ fn read_state_map(bytes: &[u8]) -> Result<Message<'_>, WireError>
     }
 }
 
-/// The message whose map `bytes` spell after the type byte of `message`, or the packet's first error.
+/// Reads the message whose map `bytes` spell after the type byte of `message`. Returns the message or
+/// the packet's first error.
 #[inline(always)]
 fn read_map(message: MessageType, bytes: &[u8]) -> Result<Message<'_>, WireError>
     ensures { Gives message_of result (read_value message (whole_at 8 bytes.now)) }
@@ -140,7 +142,7 @@ fn read_map(message: MessageType, bytes: &[u8]) -> Result<Message<'_>, WireError
     }
 }
 
-/// The message that `packet` spells, or its first error: the result of `decode`.
+/// Returns the message that `packet` spells, or the packet's first error, as `decode` does.
 #[inline(always)]
 #[tactic(auto, unfolding(crate::specs::Decoded::decoded))]
 fn read_packet(packet: &[u8]) -> Result<Message<'_>, WireError>
@@ -156,13 +158,13 @@ fn read_packet(packet: &[u8]) -> Result<Message<'_>, WireError>
     }
 }
 
-/// Returns the message that a packet spells, with its keys in any order and its values in any spelling, or
-/// the packet's first error in reading order.
+/// Returns the message that a packet spells, with its keys in any order and its values in any spelling. If
+/// the packet spells no message, the call returns the packet's first error in reading order.
 ///
-/// The error is `Empty` if the packet is empty, then `UnknownType` if no message has its type, then `Pack` if
-/// the bytes after the type are not a MessagePack value, then `NotAMap` if the value isn't a map, and then
-/// the map's first error. For the types 0, 1 and 6 to 9 the result is `Foreign`, no matter what follows the
-/// type. Allocates no memory.
+/// The error is `Empty` if the packet is empty, and `UnknownType` if no message has the packet's type.
+/// Otherwise, it is `Pack` if the bytes after the type are not a MessagePack value, `NotAMap` if this value
+/// isn't a map, and in all other cases the map's first error. For the types 0, 1 and 6 to 9 the result is
+/// `Foreign`, no matter what follows the type. Allocates no memory.
 #[inline(always)]
 pub fn decode(packet: &[u8]) -> Result<Message<'_>, WireError>
     // The packet spells the message that is returned.
@@ -180,9 +182,9 @@ pub fn decode(packet: &[u8]) -> Result<Message<'_>, WireError>
 }
 
 /// Returns the user event that a packet spells, with its keys in any order and its values in any spelling, or
-/// `None` if it spells none.
+/// `None` if the packet spells no user event.
 ///
-/// If `decode` returns another message or an error, the result is `None`; call `decode` to get the error.
+/// If `decode` returns another message or an error, the result is `None`. To get the error, call `decode`.
 /// Allocates no memory.
 #[inline(always)]
 #[tactic(auto, unfolding(crate::specs::Decoded::decoded))]

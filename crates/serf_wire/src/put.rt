@@ -1,4 +1,4 @@
-//! Appends fields and lists of canonical packets to a vector, `out`.
+//! Appends the fields and lists of canonical packets to a vector, `out`.
 
 ghost use Rattle.std.specs.Prelude.{◌≡◌, ◌<◌, ◌^◌, ◌++◌, false, true, length, nat_lt, codes, map, replicate, OnOk, Some};
 ghost use Rattle.std.specs.List.{flat_map, list_any, list_all};
@@ -19,7 +19,7 @@ use serf_pack::{
 };
 use std::alloc::AllocError;
 
-/// Appends a field with a text: `name` as the key, and `text`.
+/// Appends a field whose key is `name` and whose value is `text`.
 pub fn write_text_field(out: &mut Vec<u8>, name: &[u8], text: &[u8]) -> Result<(), AllocError>
     requires name { length name.now < 2 ^ 32 }
     requires text { length text.now < 2 ^ 32 }
@@ -29,7 +29,7 @@ pub fn write_text_field(out: &mut Vec<u8>, name: &[u8], text: &[u8]) -> Result<(
     write_raw(out, text)
 }
 
-/// Appends a field with a number: `name` as the key, and `number`.
+/// Appends a field whose key is `name` and whose value is `number`.
 pub fn write_number_field(out: &mut Vec<u8>, name: &[u8], number: u64) -> Result<(), AllocError>
     requires { length name.now < 2 ^ 32 }
     ensures { OnOk result (out.new.items ≡ out.old.items ++ entry name.now (uint_bytes number)) }
@@ -38,7 +38,7 @@ pub fn write_number_field(out: &mut Vec<u8>, name: &[u8], number: u64) -> Result
     write_unsigned(out, number)
 }
 
-/// Appends the field of a query's timeout.
+/// Appends the field with a query's timeout.
 pub fn write_timeout_field(out: &mut Vec<u8>, parts: &Query<&[Bytes]>) -> Result<(), AllocError>
     ensures timeout { OnOk result (fits parts.now.timeout ≡ Some parts.now.timeout) }
     ensures bytes { OnOk result (out.new.items ≡ out.old.items
@@ -48,7 +48,7 @@ pub fn write_timeout_field(out: &mut Vec<u8>, parts: &Query<&[Bytes]>) -> Result
     write_integer(out, parts.timeout)
 }
 
-/// Appends a field with a truth value: `name` as the key, and `flag`.
+/// Appends a field whose key is `name` and whose value is the truth value `flag`.
 pub fn write_flag_field(out: &mut Vec<u8>, name: &[u8], flag: bool) -> Result<(), AllocError>
     requires { length name.now < 2 ^ 32 }
     ensures { OnOk result (out.new.items ≡ out.old.items ++ entry name.now (flag_bytes flag)) }
@@ -68,7 +68,7 @@ fn write_filters(out: &mut Vec<u8>, filters: &[Bytes]) -> Result<(), AllocError>
     Ok(())
 }
 
-/// Appends a field with a list of filters: `name` as the key, and the list.
+/// Appends a field whose key is `name` and whose value is a list of filters.
 pub fn write_filters_field(
     out: &mut Vec<u8>,
     name: &[u8],
@@ -97,7 +97,7 @@ pub fn write_texts(out: &mut Vec<u8>, texts: &[&[u8]]) -> Result<(), AllocError>
     Ok(())
 }
 
-/// Appends a field with a list of texts: `name` as the key, and the list.
+/// Appends a field whose key is `name` and whose value is a list of texts.
 pub fn write_texts_field(out: &mut Vec<u8>, name: &[u8], texts: &[&[u8]]) -> Result<(), AllocError>
     requires name { length name.now < 2 ^ 32 }
     requires list { length texts.now < 2 ^ 32 }
@@ -123,7 +123,7 @@ fn write_status_times(out: &mut Vec<u8>, status: &[StatusTime]) -> Result<(), Al
     Ok(())
 }
 
-/// Appends a field with a map of names and times: `name` as the key, and the map.
+/// Appends a field whose key is `name` and whose value is a map of names and times.
 pub fn write_status_field(
     out: &mut Vec<u8>,
     name: &[u8],
@@ -142,7 +142,7 @@ pub fn write_status_field(
     write_status_times(out, status)
 }
 
-/// Appends an event of a slot: a map of its name and payload.
+/// Appends an event of a slot, as a map of its name and its payload.
 fn write_event(out: &mut Vec<u8>, event: &EventBody) -> Result<(), AllocError>
     requires { is_long_event event.now ≡ false }
     ensures { OnOk result (out.new.items ≡ out.old.items ++ event_bytes event.now) }
@@ -163,7 +163,7 @@ fn write_events(out: &mut Vec<u8>, events: &[EventBody]) -> Result<(), AllocErro
     Ok(())
 }
 
-/// Appends a slot with events: a map of `time` and the list of `events`.
+/// Appends a slot with events, as a map of `time` and the list of `events`.
 fn write_held(out: &mut Vec<u8>, time: u64, events: &[EventBody]) -> Result<(), AllocError>
     requires list { length events.now < 2 ^ 32 }
     requires items { list_any is_long_event events.now ≡ false }
@@ -217,7 +217,7 @@ fn write_unused(out: &mut Vec<u8>, count: u32) -> Result<(), AllocError>
     Ok(())
 }
 
-/// Appends a field with a list of slots: `name` as the key, and the list.
+/// Appends a field whose key is `name` and whose value is a list of slots.
 pub fn write_slots_field(
     out: &mut Vec<u8>,
     name: &[u8],

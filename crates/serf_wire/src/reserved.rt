@@ -7,7 +7,7 @@ use std::marker::Model;
 
 /// A list of items in order, with room for more items.
 ///
-/// Contracts see the items, and how many more can be added without allocating memory.
+/// Contracts see the items, and how many more items can be added without allocating memory.
 #[derive(Debug, Drop)]
 pub struct ReservedVec<T> {
     items: Vec<T>,
@@ -25,7 +25,7 @@ impl<T> Model for ReservedVec<T> {
 }
 
 impl<T> ReservedVec<T> {
-    /// A list without items and without room. Allocates no memory.
+    /// Returns a list that has no items and no room. Allocates no memory.
     pub fn new(alloc: Global) -> ReservedVec<T>
         ensures items { result.items ≡ [] }
         ensures room { result.room ≡ 0 }
@@ -35,7 +35,7 @@ impl<T> ReservedVec<T> {
         }
     }
 
-    /// A list of the items of a vector. Allocates no memory.
+    /// Turns a vector into a list of its items. Allocates no memory.
     pub fn from_vec(items: Vec<T>) -> ReservedVec<T>
         ensures items { result.items ≡ items.items }
         ensures room { result.room ≡ vec_capacity items - vec_len items }
@@ -43,14 +43,14 @@ impl<T> ReservedVec<T> {
         ReservedVec { items }
     }
 
-    /// The items as a slice. Allocates no memory.
+    /// Returns the items as a slice. Allocates no memory.
     pub fn as_slice(&self) -> &[T]
         ensures { result.now ≡ self.now.items }
     {
         self.items.as_slice()
     }
 
-    /// The items as a vector, with the spare room. Allocates no memory.
+    /// Turns the list back into a vector, with the spare room. Allocates no memory.
     pub fn into_vec(self) -> Vec<T>
         ensures items { result.items ≡ self.items }
         ensures room { vec_capacity result - vec_len result ≡ self.room }
@@ -59,8 +59,8 @@ impl<T> ReservedVec<T> {
         items
     }
 
-    /// Makes room for one more item. If there is no memory for it, returns `AllocError` and changes nothing.
-    /// Allocates memory only if there is no room.
+    /// Makes room for one more item. If there is no memory for the item, the call returns `AllocError` and
+    /// changes nothing. Allocates memory only if there is no room yet.
     pub fn make_room(&mut self) -> Result<(), AllocError>
         ensures items { self.new.items ≡ self.old.items }
         ensures room { OnOk result (0 < self.new.room) }
@@ -71,7 +71,7 @@ impl<T> ReservedVec<T> {
         self.items.reserve(1)
     }
 
-    /// Adds an item, for which there must be room, and uses exactly one place of the room. Allocates no
+    /// Adds an item. There must be room for it, and the item uses exactly one place of the room. Allocates no
     /// memory.
     pub fn add(&mut self, item: T)
         requires { 0 < self.old.room }
@@ -83,7 +83,7 @@ impl<T> ReservedVec<T> {
 }
 
 impl<T: Drop> ReservedVec<T> {
-    /// Drops all items. Their places are added to the room. Allocates no memory.
+    /// Drops all items. Their places become room for new items. Allocates no memory.
     pub fn clear(&mut self)
         ensures items { self.new.items ≡ [] }
         ensures room { self.new.room ≡ self.old.room + length self.old.items }

@@ -1,5 +1,5 @@
-//! Steps over the slots and the events of a packet. An item in a compact spelling is read in one pass, and
-//! any other item by the general readers.
+//! Steps through the slots and the events of a packet. An item in a compact spelling is read in one pass, and
+//! any other item is read by the general readers.
 
 ghost use Rattle.std.specs.Prelude.{◌≡◌, ◌∷◌, [], map, IfSome, IfNone};
 ghost use Rattle.serf_pack.specs.Walk.{items_left};
@@ -10,7 +10,8 @@ use crate::fast::{read_event, read_slot};
 use crate::lists::{EventView, SlotView};
 use serf_pack::Items;
 
-/// The next event of `items`, if its spelling is compact, and the items after it.
+/// Returns the next event of `items`, and the items after it. Returns `None` if the event's spelling isn't
+/// compact.
 #[inline(always)]
 fn compact_event<'a>(items: &Items<'a>) -> Option<(EventView<'a>, Items<'a>)>
     ensures { IfSome result (λ x. map event_body_in (items_left items.now)
@@ -26,7 +27,7 @@ fn compact_event<'a>(items: &Items<'a>) -> Option<(EventView<'a>, Items<'a>)>
     }
 }
 
-/// The next event of `items`, and the items after it.
+/// Returns the next event of `items`, and the items after it. Returns `None` after the last event.
 #[inline]
 pub fn next_event<'a>(items: &Items<'a>) -> Option<(EventView<'a>, Items<'a>)>
     ensures some { IfSome result (λ x. map event_body_in (items_left items.now)
@@ -46,7 +47,8 @@ pub fn next_event<'a>(items: &Items<'a>) -> Option<(EventView<'a>, Items<'a>)>
     }
 }
 
-/// The next slot of `items`, if its spelling is compact, and the items after it.
+/// Returns the next slot of `items`, and the items after it. Returns `None` if the slot's spelling isn't
+/// compact.
 #[inline(always)]
 fn compact_slot<'a>(items: &Items<'a>) -> Option<(SlotView<'a>, Items<'a>)>
     ensures { IfSome result (λ x. map slot_in (items_left items.now)
@@ -62,7 +64,7 @@ fn compact_slot<'a>(items: &Items<'a>) -> Option<(SlotView<'a>, Items<'a>)>
     }
 }
 
-/// The next slot of `items`, and the items after it.
+/// Returns the next slot of `items`, and the items after it. Returns `None` after the last slot.
 #[inline]
 pub fn next_slot<'a>(items: &Items<'a>) -> Option<(SlotView<'a>, Items<'a>)>
     ensures some { IfSome result (λ x. map slot_in (items_left items.now)

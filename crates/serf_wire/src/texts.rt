@@ -7,9 +7,10 @@ use serf_lamport::Time;
 use std::alloc::{AllocError, Global};
 use std::marker::Model;
 
-/// Bytes that a value owns: a node's name, an event's name or payload, a packet.
+/// Bytes that a value owns, such as a node's name, an event's name or payload, or a packet.
 ///
-/// Contracts see the list of the bytes. Conversions from a `Vec` and back allocate no memory.
+/// Contracts see a value of this type as the list of its bytes. Conversions from a `Vec` and back allocate no
+/// memory.
 #[derive(Debug, Drop)]
 pub struct Bytes {
     bytes: Vec<u8>,
@@ -24,14 +25,14 @@ impl Model for Bytes {
 }
 
 impl Bytes {
-    /// The bytes of a vector. Allocates no memory.
+    /// Turns a vector into `Bytes`. Allocates no memory.
     pub fn from_vec(items: Vec<u8>) -> Bytes
         ensures { result ≡ items.items }
     {
         Bytes { bytes: items }
     }
 
-    /// A copy of the bytes, or `AllocError` if there is no memory for it.
+    /// Returns a copy of `bytes`, or `AllocError` if there is no memory for the copy.
     pub fn copy_of(alloc: Global, bytes: &[u8]) -> Result<Bytes, AllocError>
         ensures { IfOk result (λ copy. copy ≡ bytes.now) }
     {
@@ -39,14 +40,14 @@ impl Bytes {
         Ok(Bytes { bytes: copy })
     }
 
-    /// The bytes as a slice. Allocates no memory.
+    /// Returns the bytes as a slice. Allocates no memory.
     pub fn as_slice(&self) -> &[u8]
         ensures { result.now ≡ self.now }
     {
         self.bytes.as_slice()
     }
 
-    /// The bytes as a vector. Allocates no memory.
+    /// Turns the bytes back into a vector. Allocates no memory.
     pub fn into_vec(self) -> Vec<u8>
         ensures { result.items ≡ self }
     {
@@ -62,16 +63,16 @@ pub struct EventBody {
     pub payload: Bytes,
 }
 
-/// Events in order.
+/// A list of events, in order.
 pub type EventBodies = ReservedVec<EventBody>;
 
-/// One slot of a buffer: a time, and what the slot holds of that time, in order. A slot that holds nothing is
-/// empty, whatever its time is.
+/// A slot of a buffer: a time, and the entries of this time that the slot holds, in order. A slot that holds
+/// no entries is empty, whatever its time is.
 #[derive(Debug, Drop)]
 pub struct TimeSlot<T> {
     pub time: Time,
     pub held: ReservedVec<T>,
 }
 
-/// A slot of events.
+/// A slot that holds events.
 pub type Slot = TimeSlot<EventBody>;

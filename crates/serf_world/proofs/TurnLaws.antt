@@ -190,10 +190,10 @@ Owes c a act r w line = TakesStep (on_agent c a act r) w line
 
 pub owes-turn : KeepsRepresentable → (c : Cluster) (w : WorldState) (more : List (List ℕ)) (a : ℕ) (act : Act) (old new : NodeState) (line : Line) → IsViewed c w → AreRepresentable c → IsWritableAct w.sent act → a < length w.nodes → old ≡ get_or w.nodes a old
     → ((m : IdealNode) → IsRepresentable m.agent → old ≡ node_of m → TakesTurn a w.sent more (apply m w.sent act) new line)
-    → Owes c a act (slice_get c.nodes a) (record { nodes = set w.nodes a new; sent = more }) line
+    → Owes c a act (slice_get c.nodes a) (record { nodes = set w.nodes a new; sent = more; has_failed = w.has_failed }) line
 owes-turn keeps c w more a act old new line v representable told within at does = by (slice_get c.nodes a) refl
   where
-    by : (r : Option IdealNode) → slice_get c.nodes a ≡ r → Owes c a act r (record { nodes = set w.nodes a new; sent = more }) line
+    by : (r : Option IdealNode) → slice_get c.nodes a ≡ r → Owes c a act r (record { nodes = set w.nodes a new; sent = more; has_failed = w.has_failed }) line
     by None none = absurd (let past = none-past c.nodes a none in let n = ap length v.nodes in let l = length-map c.nodes node_of in omega arith)
     by (Some m) found =
         let well : IsRepresentable m.agent = all-at (λ m. IsRepresentable m.agent) c.nodes a m representable found in

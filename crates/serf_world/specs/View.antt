@@ -1,5 +1,5 @@
 -- What a world stores of a cluster.
-use Rattle.std.specs.Prelude.{◌≡◌, ℕ, List, [], ◌∷◌, ◌++◌, map, Option, Some, All, slice_get}
+use Rattle.std.specs.Prelude.{◌≡◌, ℕ, Bool, List, [], ◌∷◌, ◌++◌, map, Option, Some, All, slice_get}
 use Rattle.std.specs.Option.{option_map}
 use Rattle.serf_agent.specs.DeliveredQuery.{DeliveredQuery}
 use Rattle.serf_agent.specs.View.{ConcreteState, view_of}
@@ -22,10 +22,11 @@ pub record NodeState : Type 0 where
   pub concrete : ConcreteState
   pub handed : List (Option DeliveredQuery)
 
--- the agents, and all packets that were sent
+-- the agents, all packets that were sent, and whether memory ran out in a step
 pub record WorldState : Type 0 where
   pub nodes : List NodeState
   pub sent : List (List ℕ)
+  pub has_failed : Bool
 
 -- what a world stores of an agent of a cluster
 abbrev pub node_of : IdealNode → NodeState

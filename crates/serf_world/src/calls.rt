@@ -1,6 +1,6 @@
-//! What the agent of `node`, number `number` of the cluster, does by itself. `sent` has all packets of the cluster. A
-//! clause `turn` says that the node takes the same turn as each ideal node `m` of which it is the view, and that the
-//! result is the line of this turn.
+//! The acts that an agent does without a packet. `node` holds the agent, `number` is its number in the cluster, and
+//! `sent` has all packets of the cluster. A clause `turn` states that the node takes the same turn as each ideal node
+//! `m` of which it is the view, and that the result is the line of this turn.
 
 ghost use Rattle.std.specs.Prelude.{◌≡◌, ◌≢◌, ◌++◌, ℕ, List, [], IfOk, OnErr, unwrap_or, true, Err};
 ghost use Rattle.serf_window.specs.Texts.{event_of};
@@ -27,7 +27,7 @@ use serf_snapshot::{AppendLineError, MemorySink};
 use serf_wire::Bytes;
 use std::alloc::{AllocError, Global};
 
-/// Fires the event `name` with `payload`, and appends its packet to `sent`. `coalesce` says whether hosts may coalesce
+/// Fires the event `name` with `payload`, and appends its packet to `sent`. `coalesce` is true if hosts may coalesce
 /// the event.
 #[inline(always)]
 pub(crate) fn fire_at(
@@ -81,8 +81,8 @@ pub(crate) fn state_at(
     }
 }
 
-/// Fires `query`, and appends its packet to `sent`, and then the agent's ack, if there is one. If the query is handed
-/// out, `node` keeps it.
+/// Fires `query`. Appends the query's packet to `sent`, and then the agent's ack, if there is one. If the query is
+/// handed out, `node` keeps it.
 pub(crate) fn query_at(
     alloc: Global,
     number: u64,
@@ -126,8 +126,8 @@ pub(crate) fn query_at(
     Ok(line)
 }
 
-/// Returns the line of a save or a compaction that ended with `noted`. It has `answer`, or the refusal if the call
-/// failed.
+/// Returns the line of a save or a compaction that ended with `noted`. The line has `answer`, or the refusal if the
+/// call failed.
 fn append_lines(
     alloc: Global,
     answer: Answer,
@@ -213,7 +213,7 @@ pub(crate) fn open_on(
     }
 }
 
-/// Returns the text on which `agent` is opened again: what is durable in its sink, followed by `tail`.
+/// Returns the text on which `agent` is opened again: the durable text of its sink, followed by `tail`.
 fn text_of(alloc: Global, agent: &Agent<MemorySink>, tail: &[u8]) -> Result<Vec<u8>, AllocError>
     ensures { IfOk result (λ text. text.items
         ≡ unwrap_or agent.now.concrete.snapshot.durable [] ++ tail.now) }
@@ -223,14 +223,14 @@ fn text_of(alloc: Global, agent: &Agent<MemorySink>, tail: &[u8]) -> Result<Vec<
     Ok(text)
 }
 
-/// Opens the agent again, on its sink's durable text followed by `tail`. The queries of its earlier life can't be
+/// Opens the agent again, on its sink's durable text followed by `tail`. The queries of its previous life can't be
 /// answered any more.
 pub(crate) fn restart_at(alloc: Global, node: &mut Node, tail: &[u8]) -> Result<Line, AllocError>
     ensures { (m : IdealNode) (number : ℕ) (sent : List (List ℕ))
         → IsRepresentable m.agent → node.old ≡ node_of m
         → IfOk result (TakesTurn number sent sent (restarts m tail.now) node.new) }
 {
-    representable_agents(); // for the prover: what the sink keeps has everything that the agent's next life needs
+    representable_agents(); // for the prover: the sink's text has everything that the next life needs
     node.handed.clear();
     let agent = &mut node.agent;
     let text = text_of(alloc, agent, tail)?;

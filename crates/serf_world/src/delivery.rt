@@ -1,4 +1,4 @@
-//! What an agent does with a packet that it is given: it receives the message, or merges the state of another agent.
+//! Passes a packet to an agent, which receives the message in it or merges the state in it.
 
 ghost use Rattle.std.specs.Prelude.{◌≡◌, ◌≢◌, ◌∷◌, ◌++◌, [], IfOk, OnErr, Err, Some, slice_get, if◌then◌else◌};
 ghost use Rattle.std.specs.Option.{option_to_list};
@@ -19,7 +19,7 @@ use serf_model::{Answer, Line, Refusal, merged_agents, packet_at};
 use serf_wire::{Bytes, PushPull};
 use std::alloc::{AllocError, Global};
 
-/// Copies `packet` if `rebroadcast` says that it is to be sent on. Otherwise returns `None`.
+/// Copies `packet` if it is to be sent on (`rebroadcast`). Otherwise returns `None`.
 fn sent_on(alloc: Global, packet: &[u8], rebroadcast: bool) -> Result<Option<Bytes>, AllocError>
     ensures { IfOk result (λ copy. option_to_list copy
         ≡ (if rebroadcast then packet.now ∷ [] else [])) }
@@ -94,9 +94,9 @@ fn merge_answer(merged: &Result<PushPull, MergeError>) -> Result<Answer, AllocEr
     }
 }
 
-/// Agent number `number`, in `node`, merges the state in packet number `packet` of `sent`. `join` says whether the
-/// merge belongs to a join. If the agent's sink fails at an event of the state, the line has the events that were
-/// handed out before.
+/// Agent number `number`, in `node`, merges the state in packet number `packet` of `sent`. `join` is true if the merge
+/// is part of a join. If the agent's sink fails at an event of the state, the line has the events that were handed out
+/// before.
 pub(crate) fn merge_at(
     alloc: Global,
     number: u64,

@@ -1,6 +1,6 @@
-//! What the prover learns about an action from its types: its numbers fit into their types, its texts are bytes, and
-//! its query's ID has 32 bits. No function here does anything at run time: the caller may use the clause after the
-//! call.
+//! Facts about an action that the prover learns from its types: its numbers fit into their types, its texts are bytes,
+//! and its query's ID has 32 bits. No function here does anything at run time: after the call, the caller may use the
+//! function's clause.
 
 ghost use Rattle.std.specs.Prelude.{All};
 ghost use Rattle.serf_window.specs.Texts.{event_of};
@@ -63,7 +63,7 @@ fn know_id(id: u32)
 pub(crate) fn know_packet(packet: &[u8])
     ensures { All (λ e. IsWritable e.key) (events_in_packet packet.now) }
 {
-    told_packets(); // for the prover: the texts of the events in a packet of bytes are bytes
+    told_packets(); // for the prover: if a packet consists of bytes, so do the texts of its events
     let _bytes = packet;
 }
 
@@ -78,8 +78,8 @@ fn inspect_act(act: &Act)
     }
 }
 
-/// Shows the prover that the texts of the events in the packet of `sent` that `act` passes to its agent are bytes. Does
-/// nothing at run time.
+/// Shows the prover that the texts of all events in a packet are bytes. The packet is in `sent`, and `act` passes it to
+/// its agent. Does nothing at run time.
 pub(crate) fn inspect_given(sent: &[Bytes], act: &Act)
     ensures { All (λ e. IsWritable e.key) (events_given (given_by sent.now act.now)) }
 {

@@ -1,5 +1,5 @@
-//! A cluster of real agents on a network that loses, repeats and reorders packets. It does one action after another,
-//! and is an exact reference for what Serf's user events and queries do.
+//! A cluster of real agents on a network that loses, repeats and reorders packets. The cluster does one action after
+//! another, and is an exact reference for the behaviour of Serf's user events and queries.
 #![tactic(auto)]
 
 mod calls;

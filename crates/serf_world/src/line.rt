@@ -1,5 +1,4 @@
-//! The lines of a trace, each of which is made as its packets are sent. `sent` has all packets of a cluster, numbered
-//! from 0.
+//! Makes each line of a trace while its packets are sent. `sent` has all packets of a cluster, numbered from 0.
 
 ghost use Rattle.std.specs.Prelude.{◌≡◌, ◌+◌, ◌^◌, ◌-◌, ◌≤◌, ◌++◌, ◌∷◌, [], IfOk, OnOk, OnErr, None, Some, length, map};
 ghost use Rattle.std.specs.Option.{option_map, option_to_list};
@@ -181,8 +180,9 @@ pub(crate) fn query_packets(
     Ok(packets)
 }
 
-/// Appends `query`, if there is one, to `handed`, the queries that agent number `agent` keeps, and returns its line.
-fn hand_over(
+/// Appends `query`, if there is one, to `handed`, the queries that agent number `agent` keeps. Returns the query's
+/// line.
+fn record_delivery(
     alloc: Global,
     agent: u64,
     handed: &mut Vec<Option<PendingQuery>>,
@@ -226,7 +226,7 @@ pub(crate) fn line_with_query(
         (record { answer = answer; packets = packets; events = []; handed = query })) }
     ensures err { OnErr result (sent.new.items ≡ sent.old.items) }
 {
-    let line = hand_over(alloc, agent, handed, query)?;
+    let line = record_delivery(alloc, agent, handed, query)?;
     let numbers = send(alloc, sent, packets)?;
     Ok(Line {
         answer,

@@ -1,4 +1,4 @@
-//! How an agent answers a query that was handed to it in its present life.
+//! Answers a query that was handed to an agent in its present life.
 
 ghost use Rattle.std.specs.Prelude.{◌≡◌, ℕ, List, Option, IfOk, OnErr, OnOk, slice_get};
 ghost use Rattle.serf_agent.specs.DeliveredQuery.{DeliveredQuery};
@@ -46,8 +46,8 @@ fn respond_in(
     }
 }
 
-/// Answers query number `handed`, counted from 0, of those that were handed to the agent of `node` in this life, with
-/// `payload` at the moment `now`, in nanoseconds. The response is appended to `sent`.
+/// Answers query number `handed` with `payload` at the moment `now`, in nanoseconds, and appends the response to
+/// `sent`. The number counts the queries that were handed to the agent of `node` in this life, from 0.
 pub(crate) fn respond_at(
     alloc: Global,
     number: u64,

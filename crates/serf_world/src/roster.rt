@@ -13,7 +13,7 @@ use std::collections::HashSet;
 use std::marker::Model;
 use thiserror::Error;
 
-/// Why an agent isn't added to a roster, which stays unchanged. `BadConfig` is checked before `NameTwice`.
+/// The reason why an agent isn't added to a roster. The roster is unchanged. `BadConfig` is checked before `NameTwice`.
 #[derive(Clone, Copy, Debug, PartialEq, Eq, Error)]
 pub enum RosterError {
     #[error("the settings are out of bounds")]
@@ -27,7 +27,7 @@ pub enum RosterError {
 /// The settings of agents that can make a cluster, in order. Each agent's settings are within their bounds, and no two
 /// agents have the same name.
 ///
-/// Contracts see the list of settings. `names` has the agents' names, so that one name among many is found fast.
+/// Contracts see the list of settings. `names` has the agents' names, so that a name is found fast among many.
 pub struct Roster {
     configs: Vec<Config>,
     names: HashSet<Vec<u8>>,
@@ -56,8 +56,8 @@ impl Model for Roster {
     ghost invariant = { λ r. AreNames r.names r.configs.items × AreConfigs r.configs.items };
 }
 
-/// Adds `name` to `names`, the set of some agents' names. Returns true if the name wasn't in the set yet. An
-/// `AllocError` adds nothing.
+/// Adds `name` to `names`, the set of some agents' names. Returns true if the name wasn't in the set yet. After an
+/// `AllocError`, the set is unchanged.
 fn add_name(alloc: Global, names: &mut HashSet<Vec<u8>>, name: &[u8]) -> Result<bool, AllocError>
     ensures free { (configs : List Config) → AreNames names.old configs
         → IfOk result (λ free. free ≡ not (has_name configs name.now)) }
@@ -94,7 +94,7 @@ impl Roster {
     }
 
     /// Makes the roster of the agents with the settings `configs`, in order. `NameTwice` is checked before `BadConfig`.
-    /// The number in the error, counted from 0, is that of the first agent with this error.
+    /// The error contains the number of the first agent with this error, counted from 0.
     pub fn from_vec(alloc: Global, configs: Vec<Config>) -> Result<Roster, NewError>
         ensures agents { IfOk result (λ roster. roster ≡ configs.items) }
         ensures configs { OnOk result (AreConfigs configs.items) }

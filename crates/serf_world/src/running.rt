@@ -1,4 +1,4 @@
-//! A whole run: makes a cluster from the agents' settings, does all actions, and returns the trace.
+//! Does a whole run: makes a cluster from the agents' settings, does all actions, and returns the trace.
 
 ghost use Rattle.std.specs.Prelude.{◌≡◌, ◌<◌, ◌++◌, ◌∷◌, ℕ, [], IfErr, IfOk, OnErr, OnOk, length, take};
 ghost use Rattle.std.specs.List.{fold};
@@ -63,7 +63,7 @@ fn run_in(alloc: Global, world: World, actions: &[Action]) -> Result<Trace, Trac
 }
 
 /// Makes the trace of a run without actions: it has no lines and no packets.
-fn no_lines(alloc: Global) -> Trace
+fn empty_trace(alloc: Global) -> Trace
     ensures { outcome_of result ≡ record { lines = []; sent = [] } }
 {
     Trace {
@@ -80,10 +80,10 @@ fn run_exactly(alloc: Global, configs: Vec<Config>, actions: &[Action]) -> Resul
         Ok(roster) => roster,
         Err(NewError::NameTwice(number)) => return Err(RunError::NameTwice(number)),
         Err(NewError::BadConfig(number)) => return Err(RunError::BadConfig(number)),
-        Err(NewError::OutOfMemory) => return Err(RunError::OutOfMemory(no_lines(alloc))),
+        Err(NewError::OutOfMemory) => return Err(RunError::OutOfMemory(empty_trace(alloc))),
     };
     let Ok(world) = World::new(alloc, roster) else {
-        return Err(RunError::OutOfMemory(no_lines(alloc)));
+        return Err(RunError::OutOfMemory(empty_trace(alloc)));
     };
     match run_in(alloc, world, actions) {
         Ok(trace) => Ok(trace),
@@ -94,18 +94,18 @@ fn run_exactly(alloc: Global, configs: Vec<Config>, actions: &[Action]) -> Resul
 /// Does all `actions`, one after another, in a cluster of agents with the settings `configs`.
 ///
 /// A refused action has a line in the trace, and the run continues. `NameTwice` is checked first, then `BadConfig`;
-/// after either of them, nothing was done. `OutOfMemory` has the trace of the actions that were done before. Every run
-/// of the model keeps all promises ([`serf_model::run_promises`]), and this is a run of the model.
+/// after either of them, no action was done. `OutOfMemory` has the trace of the actions that were done before. Every
+/// run of the model keeps all promises ([`serf_model::run_promises`]), and this is a run of the model.
 pub fn run(alloc: Global, configs: Vec<Config>, actions: &[Action]) -> Result<Trace, RunError>
-    // The trace is that of the ideal cluster.
+    // The trace is the same as that of the ideal cluster.
     ensures exactly { IsRun configs.items actions.now result }
 
-    // It shows a run that keeps all promises.
+    // The trace shows a run that keeps all promises.
     ensures promises { ShowsKept configs.items actions.now result }
 {
     run_promises(); // for the prover: every run of the model keeps the promises
-    turns_shown(); // the turns of a run are what its trace shows
+    turns_shown(); // the turns of a run are exactly those that its trace shows
     read_all_numbers(actions); // the actions' numbers fit into their types
-    inspect_all(actions); // their texts are bytes, and their queries' IDs have 32 bits
+    inspect_all(actions); // the actions' texts are bytes, and their query IDs have 32 bits
     run_exactly(alloc, configs, actions)
 }

@@ -1,4 +1,4 @@
-//! Tellers: each of them receives the turns of a run, and writes a text about them.
+//! Reporters: each of them receives the turns of a run, and writes a text about them.
 
 ghost use Rattle.std.specs.Prelude.{◌≡◌, ◌++◌, ◌∷◌, ◌+◌, [], List, ℕ, OnOk, length};
 ghost use Rattle.serf_agent.specs.declared.config.Config.{Config};
@@ -11,11 +11,12 @@ use crate::world::World;
 use serf_model::{Action, Line};
 use std::alloc::{AllocError, Global};
 
-/// A teller receives the turns of a run, one after another, and appends its text about each of them to an output.
+/// A reporter receives the turns of a run, one after another, and appends its text about each of them to an output.
 ///
-/// The contracts use these words. `told options reporter configs actions text`: the teller has the options `options`, and
-/// wrote `text` about agents with the settings `configs` that did `actions`. `saw`: it recorded `seen` before one more
-/// action. `streams options`: these options are meant for a schedule whose lines are done one by one.
+/// The contracts use three predicates. `told options reporter configs actions text` means that the reporter has the
+/// options `options`, and wrote `text` about agents with the settings `configs` that did `actions`. `saw` means that
+/// the reporter also recorded `seen` before one more action. `streams options` means that these options are for a
+/// schedule whose lines are done one by one.
 pub trait Turns {
     ghost use Rattle.std.specs.Prelude.{◌≡◌, ◌++◌, ◌∷◌, ◌+◌, [], List, ℕ, IfOk, OnOk, length};
     ghost use Rattle.serf_agent.specs.declared.config.Config.{Config};
@@ -24,10 +25,11 @@ pub trait Turns {
     ghost use Rattle.serf_model.specs.Cluster.{run_of, step};
     ghost use Rattle.serf_world.specs.View.{HasDone, TakesStep};
 
-    /// What the teller is to write, for example which lines. The options don't change during a run.
+    /// The options determine what the reporter writes, for example which lines. They don't change during a run.
     type Options;
 
-    /// What the teller records about the cluster before an action, so that it can write about the action afterwards.
+    /// The data that the reporter records about the cluster before an action, so that it can write about the action
+    /// afterwards.
     type Seen: Drop;
 
     ghost told: { Self.Options → Self → List Config → List Action → List ℕ → Type 0 };
@@ -43,8 +45,8 @@ pub trait Turns {
             → told options self.old configs [] text → HasDone configs [] [] world.now
             → agents ≡ length configs → OnOk result (told options self.new configs [] text) };
 
-    /// Inspects `world` before action number `number`, counted from 1, is done in it. Returns what [`Turns::tell`]
-    /// needs to know about the cluster before the action.
+    /// Inspects `world` before action number `number`, counted from 1, is done in it. Returns the data that
+    /// [`Turns::tell`] needs about the cluster before the action.
     fn inspect(
         &mut self,
         alloc: Global,
@@ -79,8 +81,8 @@ pub trait Turns {
             (front ++ out.new.items)) };
 }
 
-/// Does `action` in `world`, and appends the text of `reporter` about it to `out`. `number` is the action's number in the
-/// run, counted from 1.
+/// Does `action` in `world`, and appends the text of `reporter` about it to `out`. `number` is the action's number in
+/// the run, counted from 1.
 pub fn act<T: Turns>(
     alloc: Global,
     world: &mut World,

@@ -1,6 +1,6 @@
-//! The real cluster, which does one action after another: agents over sinks in memory, and the packets that were sent.
+//! A cluster of real agents over sinks in memory, with the packets that were sent. It does one action after another.
 
-ghost use Rattle.std.specs.Prelude.{◌≡◌, ◌++◌, ◌∷◌, ℕ, List, [], true, map, IfOk, OnErr, OnOk};
+ghost use Rattle.std.specs.Prelude.{◌≡◌, ◌++◌, ◌∷◌, ℕ, List, [], false, true, map, IfOk, IsErr, OnErr, OnOk};
 ghost use Rattle.std.specs.List.{AllByRecursion};
 ghost use Rattle.std.specs.Option.{option_map};
 ghost use Rattle.serf_agent.specs.Config.{is_sound};
@@ -46,17 +46,23 @@ impl Model for Node {
     ghost view = { λ s. record { concrete = s.agent.concrete; handed = s.handed.items } };
 }
 
-/// A cluster: its agents, each over a sink in memory, and all packets that were sent.
-/// Contracts see what it stores of an ideal cluster. Agents (`nodes`) and packets (`sent`) are numbered from 0.
+/// A cluster: its agents, each over a sink in memory, and all packets that were sent. Contracts see the part of an
+/// ideal cluster that this cluster stores. Agents (`nodes`) and packets (`sent`) are numbered from 0. If memory ran out
+/// in a step, the cluster has failed (`has_failed`) and does no further action.
 pub struct World {
     nodes: Vec<Node>,
     sent: Vec<Bytes>,
+    has_failed: bool,
 }
 
 /// Implemented by hand, so that dependent crates need not prove again that the fields can be dropped.
 impl Drop for World {
     fn drop(self) {
-        let World { nodes: _, sent: _ } = self;
+        let World {
+            nodes: _,
+            sent: _,
+            has_failed: _,
+        } = self;
     }
 }
 
@@ -65,10 +71,11 @@ impl Model for World {
 
     ghost Value = { WorldState };
 
-    ghost view = { λ w. record { nodes = w.nodes.items; sent = w.sent.items } };
+    ghost view = { λ w.
+        record { nodes = w.nodes.items; sent = w.sent.items; has_failed = w.has_failed } };
 }
 
-/// Opens an agent for each of the settings `configs`, in order, over an empty sink.
+/// Opens an agent over an empty sink for each of the settings `configs`, in order.
 fn open_all(alloc: Global, configs: Vec<Config>) -> Result<Vec<Node>, AllocError>
     requires { AllByRecursion (λ c. is_sound c ≡ true) configs.items }
     ensures { IfOk result (λ nodes. nodes.items ≡ map (λ c. node_of (first_node c)) configs.items) }
@@ -138,30 +145,59 @@ impl World {
     /// yet.
     pub fn new(alloc: Global, roster: Roster) -> Result<World, AllocError>
         ensures start { IfOk result (IsViewed (start roster).cluster) }
+        ensures fresh { IfOk result (λ world. world.has_failed ≡ false) }
         ensures configs { OnOk result (AreConfigs roster) }
         ensures representable { OnOk result (AreRepresentable (start roster).cluster) }
         ensures done { IfOk result (λ world. HasDone roster [] [] world) }
     {
         representable_agents(); // for the prover: agents that did nothing are representable
         run_promises(); // a run without actions keeps the promises
-        turns_shown(); // the turns of a run are what its trace shows
+        turns_shown(); // the turns of a run are exactly those that its trace shows
         Ok(World {
             nodes: open_all(alloc, roster.into_vec())?,
             sent: Vec::new(alloc),
+            has_failed: false,
         })
     }
 
     /// Does `action`, and returns its line of the trace. A refused action has a line, too.
     ///
-    /// Returns an `AllocError` if memory runs out. The agent may have done the action then, but without a line, so what
-    /// the cluster does from then on belongs to no run.
+    /// Returns an `AllocError` if memory runs out. The agent may then have done the action without a line, so the
+    /// cluster has failed. From then on, each step returns an `AllocError` and changes nothing (`failed`).
     ///
     /// If each step so far returned a line, these lines are those of a run that keeps all promises, and the open
-    /// queries of the agents that are stored hold what was counted (`done`).
+    /// queries of the agents hold the answers that were counted (`done`).
     #[inline(always)]
     pub fn step(&mut self, alloc: Global, action: &Action) -> Result<Line, AllocError>
         ensures step { (c : Cluster) → IsViewed c self.old → AreRepresentable c
             → IfOk result (TakesStep (step c action.now) self.new) }
+        ensures failed { self.old.has_failed ≡ true → IsErr result × (self.new ≡ self.old) }
+        ensures ok { OnOk result (self.new.has_failed ≡ false) }
+        ensures err { OnErr result (self.new.has_failed ≡ true) }
+        ensures kept { OnErr result (self.new.sent ≡ self.old.sent) }
+        ensures done { (configs : List Config) (actions : List Action) (lines : List Line)
+            → HasDone configs actions lines self.old
+            → IfOk result (λ line.
+            HasDone configs (actions ++ action.now ∷ []) (lines ++ line ∷ []) self.new) }
+    {
+        if self.has_failed {
+            return Err(AllocError);
+        }
+        match self.try_step(alloc, action) {
+            Ok(line) => Ok(line),
+            Err(error) => {
+                self.has_failed = true;
+                Err(error)
+            }
+        }
+    }
+
+    /// Does `action`, and returns its line of the trace, or an `AllocError` if memory runs out.
+    #[inline(always)]
+    fn try_step(&mut self, alloc: Global, action: &Action) -> Result<Line, AllocError>
+        ensures step { (c : Cluster) → IsViewed c self.old → AreRepresentable c
+            → IfOk result (TakesStep (step c action.now) self.new) }
+        ensures failed { self.new.has_failed ≡ self.old.has_failed }
         ensures kept { OnErr result (self.new.sent ≡ self.old.sent) }
         ensures done { (configs : List Config) (actions : List Action) (lines : List Line)
             → HasDone configs actions lines self.old
@@ -169,10 +205,10 @@ impl World {
             HasDone configs (actions ++ action.now ∷ []) (lines ++ line ∷ []) self.new) }
     {
         run_promises(); // for the prover: every run of the model keeps the promises
-        turns_shown(); // the turns of a run are what its trace shows
-        representable_agents(); // what an agent does leaves it representable
+        turns_shown(); // the turns of a run are exactly those that its trace shows
+        representable_agents(); // every act leaves its agent representable
         read_numbers(action); // the action's numbers fit into their types
-        inspect_action(action); // its texts are bytes, and its query's ID has 32 bits
+        inspect_action(action); // the action's texts are bytes, and its query's ID has 32 bits
         match action {
             Action::Inject { bytes } => {
                 let packet = Bytes::copy_of(alloc, bytes.as_slice())?;
@@ -184,7 +220,7 @@ impl World {
                 if number >= self.nodes.len() {
                     return Ok(refused(alloc, Refusal::NoAgent));
                 }
-                inspect_given(self.sent.as_slice(), act); // for the prover: its packet's texts are bytes
+                inspect_given(self.sent.as_slice(), act); // for the prover: the texts in the act's packet are bytes
                 let line = take_turn(alloc, *agent, &mut self.nodes[number], &mut self.sent, act)?;
                 Ok(line)
             }
@@ -214,7 +250,11 @@ impl World {
     pub(crate) fn into_sent(self) -> BytesList
         ensures { result ≡ self.sent }
     {
-        let World { nodes: _, sent } = self;
+        let World {
+            nodes: _,
+            sent,
+            has_failed: _,
+        } = self;
         BytesList::from_vec(sent)
     }
 }

@@ -1,5 +1,7 @@
+pub mod Filters
 pub mod Gives
 pub mod Lines
+pub mod Texts
 pub mod Tokens
 pub mod LabelErrors
 pub mod Queries

@@ -1,5 +1,6 @@
 -- What a line does, and what it adds.
-use Rattle.std.specs.Prelude.{◌^◌, ◌-◌, ℕ, ◌==◌, ◌+◌, ◌++◌, nat_lt, Bool, true, false, not, if◌then◌else◌, List, [], ◌∷◌, length, take, drop, codes, position, Option, Some, None, Result, Ok}
+use Rattle.std.specs.Prelude.{◌^◌, ◌-◌, ℕ, ◌==◌, ◌+◌, ◌++◌, nat_lt, Bool, true, false, if◌then◌else◌, List, [], ◌∷◌, length, take, drop, codes, position, Option, Some, None, Result, Ok}
+use Rattle.std.specs.Option.{is_some}
 use Rattle.std.specs.Str.{bytes_eq}
 use Rattle.serf_agent.specs.declared.config.Config.{Config}
 use Rattle.serf_agent.specs.Config.{is_sound}
@@ -18,7 +19,7 @@ use Rattle.serf_write.specs.declared.labels.Label.{Label}
 use Rattle.serf_write.specs.declared.token.Token.{Token}
 use Rattle.serf_write.specs.declared.token.Token.TheVariants.{Word, Text}
 use Rattle.serf_write.specs.Gives.{◌>>=◌, wrong, or_wrong}
-use Rattle.serf_write.specs.Values.{agent_in, bytes_in, bytes_or_none, ends_after, mode_in, moment_in, number_in, packet_in, token_at, sink_call_in, word_at, word_of}
+use Rattle.serf_write.specs.Values.{agent_in, bytes_in, payload_in, ends_after, mode_in, moment_in, number_in, packet_in, token_at, sink_call_in, word_at, word_of}
 
 -- Agents
 
@@ -47,29 +48,34 @@ with_setting place config word =
     else if bytes_eq word (codes "keep-events") then Ok (record config { keep_events = true })
     else set_key place config word (position (λ b. b == 61) word)
 
--- the tokens from this place on are settings; if one appears more than once, its last value applies
+-- the settings, if an agent can have them; the word at this place was read last
+abbrev pub in_bounds : ℕ → Config → Result Config WordError
+in_bounds place config = if is_sound config then Ok config else wrong place expected.Bounds
+
+-- The tokens from this place on are settings, and each of them has to be within its bounds. If one appears more than once,
+-- its last value applies.
 abbrev pub settings_from : ℕ → Config → List Token → Result Config WordError
 settings_from place config [] = Ok config
-settings_from place config (token ∷ tokens) = with_setting place config (word_of (Some token)) >>= (λ config. settings_from (place + 1) config tokens)
+settings_from place config (token ∷ tokens) = (with_setting place config (word_of (Some token)) >>= in_bounds place) >>= (λ config. settings_from (place + 1) config tokens)
 
-abbrev pub name_of : Option Token → Option (List ℕ)
-name_of None = None
-name_of (Some (Word word)) = Some word
-name_of (Some (Text text)) = Some text
+-- the name of an agent; a word that is a number isn't a name, because it is an agent's number in other lines
+abbrev pub name_said : Option Token → Result (List ℕ) WordError
+name_said None = wrong 2 expected.NewName
+name_said (Some (Word word)) = if is_some (number_of word) then wrong 2 expected.NameInQuotes else Ok word
+name_said (Some (Text text)) = Ok text
 
-unfoldable pub agent_of : List Token → Result Config WordError
-agent_of tokens = do
-  name ← or_wrong 2 expected.NewName (name_of (token_at 2 tokens))
-  settings_from 3 (default_config name) (drop 2 tokens)
+-- the default settings of an agent with this name, which no agent above has
+abbrev pub new_named : List Config → List ℕ → Result Config WordError
+new_named configs name = in_bounds 2 (default_config name) >>= (λ config. if has_name configs name then wrong 2 expected.NewName else Ok config)
 
-abbrev pub with_agent : List Config → Config → Result (List Config) WordError
-with_agent configs config =
-    if not (is_sound config) then wrong 2 expected.Bounds
-    else if has_name configs config.name then wrong 2 expected.NewName
-    else Ok (configs ++ config ∷ [])
+unfoldable pub agent_of : List Config → List Token → Result Config WordError
+agent_of configs tokens = do
+  name ← name_said (token_at 2 tokens)
+  config ← new_named configs name
+  settings_from 3 config (drop 2 tokens)
 
 abbrev pub agent_after : List Config → List Token → Result (List Config) WordError
-agent_after configs tokens = agent_of tokens >>= with_agent configs
+agent_after configs tokens = agent_of configs tokens >>= (λ config. Ok (configs ++ config ∷ []))
 
 -- Actions
 
@@ -103,13 +109,24 @@ by_agent configs tokens said = do
   act ← said
   Ok (actions.Of agent act ∷ [])
 
-unfoldable pub firing_of : List Token → Result Act WordError
-firing_of tokens = do
-  name ← bytes_in 3 tokens
-  payload ← bytes_or_none 4 tokens
+-- an event whose line may have a payload, and after it `coalesce`
+abbrev pub firing_with_payload : List ℕ → List Token → Result Act WordError
+firing_with_payload name tokens = do
+  payload ← payload_in 4 tokens
   coalesce ← coalesce_in 5 tokens
   end ← ends_after 5 tokens
   Ok (acts.Fire name payload coalesce)
+
+-- an event without a payload, with `coalesce` at the fourth place
+abbrev pub firing_without_payload : List ℕ → List Token → Result Act WordError
+firing_without_payload name tokens = do
+  end ← ends_after 4 tokens
+  Ok (acts.Fire name [] true)
+
+unfoldable pub firing_of : List Token → Result Act WordError
+firing_of tokens = do
+  name ← bytes_in 3 tokens
+  if bytes_eq (word_at 4 tokens) (codes "coalesce") then firing_without_payload name tokens else firing_with_payload name tokens
 
 unfoldable pub delivery_of : List Label → List Token → Result Act WordError
 delivery_of labels tokens = do

@@ -3,11 +3,12 @@ use Rattle.std.specs.Prelude.{◌^◌, ◌-◌, ℕ, pos, ◌==◌, ◌+◌, ◌
 use Rattle.std.specs.Str.{bytes_eq}
 use Rattle.serf_model.specs.declared.action.Act.{Act}
 use Rattle.serf_model.specs.declared.action.Act.TheVariants as acts
-use Rattle.serf_text.specs.Words.{between, bytes_of, number_of}
+use Rattle.serf_text.specs.Words.{between, number_of}
 use Rattle.serf_write.specs.declared.word_error.WordError.{WordError}
 use Rattle.serf_write.specs.declared.word_error.Expected.TheVariants as expected
 use Rattle.serf_write.specs.declared.query_spec.QuerySpec.{QuerySpec}
 use Rattle.serf_write.specs.declared.token.Token.{Token}
+use Rattle.serf_write.specs.Filters.{filter_said}
 use Rattle.serf_write.specs.Gives.{◌>>=◌, wrong, or_wrong}
 use Rattle.serf_write.specs.Values.{bytes_in, time_in, time_of, word_at, word_of}
 
@@ -23,7 +24,7 @@ option_value place query_spec key value =
     >>= (λ id. Ok (record { id = id; params = query_spec.params }))
     else if bytes_eq key (codes "timeout") then or_wrong place expected.Option (between 0 9223372036854775807 (time_of value))
     >>= (λ time. Ok (record { id = query_spec.id; params = record query_spec.params { timeout = pos time } }))
-    else if bytes_eq key (codes "filter") then or_wrong place expected.Option (bytes_of value)
+    else if bytes_eq key (codes "filter") then filter_said place value
     >>= (λ filter. Ok (record { id = query_spec.id; params = record query_spec.params { filters = query_spec.params.filters ++ filter ∷ [] } }))
     else wrong place expected.Option
 

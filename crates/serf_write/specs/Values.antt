@@ -72,9 +72,9 @@ bytes_said (Some (Word word)) = bytes_of word
 unfoldable pub bytes_in : ℕ → List Token → Result (List ℕ) WordError
 bytes_in place tokens = or_wrong place expected.Bytes (bytes_said (token_at place tokens))
 
--- the bytes at a place, or no bytes if the line ends before it
-unfoldable pub bytes_or_none : ℕ → List Token → Result (List ℕ) WordError
-bytes_or_none place tokens = if nat_lt (length tokens) place then Ok [] else bytes_in place tokens
+-- the payload of an event at a place, or no bytes if the line ends before it
+unfoldable pub payload_in : ℕ → List Token → Result (List ℕ) WordError
+payload_in place tokens = if nat_lt (length tokens) place then Ok [] else or_wrong place expected.Payload (bytes_said (token_at place tokens))
 
 -- Agents and packets
 

@@ -132,9 +132,13 @@ after_lines number before (line ∷ lines) = at_line number (after_line before l
 abbrev pub nothing : Written
 nothing = record { configs = []; actions = []; labels = [] }
 
+-- a text without the byte order mark of UTF-8 at its beginning, if it has one
+abbrev pub after_mark : List ℕ → List ℕ
+after_mark text = if bytes_eq (take 3 text) (239 ∷ 187 ∷ 191 ∷ []) then drop 3 text else text
+
 -- what a written text means
 abbrev pub written_of : List ℕ → Result Written BadLine
-written_of text = after_lines 1 nothing (slice_split (λ b. b == 10) text)
+written_of text = after_lines 1 nothing (slice_split (λ b. b == 10) (after_mark text))
 
 abbrev pub schedule_meant : Written → Parsed
 schedule_meant w = record { configs = w.configs; actions = w.actions }

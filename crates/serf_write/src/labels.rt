@@ -11,7 +11,7 @@ use crate::word_error::{LineError, WordError};
 use serf_text::number;
 use serf_wire::Bytes;
 
-/// The label of a line, and the numbers of the packets that its line sent: from `first` on, and below `past`.
+/// The label of a line. The numbers of the packets that the line sent begin with `first` and end before `past`.
 #[derive(Drop)]
 pub struct Label {
     pub name: Bytes,
@@ -19,8 +19,8 @@ pub struct Label {
     pub past: u64,
 }
 
-/// Returns the label that `word` is: the part before the colon at its end. Returns `None` if `word` doesn't end with a
-/// colon.
+/// Returns the label in `word`, that is, the bytes before the colon at the end of the word. Returns `None` if `word`
+/// doesn't end with a colon.
 pub(crate) fn label_in(word: &[u8]) -> Option<&[u8]>
     ensures { option_map (λ name. name.now) result ≡ label_of word.now }
 {
@@ -32,15 +32,15 @@ pub(crate) fn label_in(word: &[u8]) -> Option<&[u8]>
     }
 }
 
-/// Whether `name` has a slash.
+/// Returns whether `name` contains a slash.
 fn has_slash(name: &[u8]) -> bool
     ensures { result ≡ list_any (λ b. b == 47) name.now }
 {
     name.iter().any(|b| *b == b'/')
 }
 
-/// Whether `name` can be the name of a new label: it isn't empty, isn't a number and has no slash, and none of `labels`
-/// has it.
+/// Returns whether `name` can be the name of a new label. The name of a new label must not be empty, must not be a
+/// number, must not contain a slash, and must differ from the name of each label in `labels`.
 pub(crate) fn may_be_label(labels: &[Label], name: &[u8]) -> bool
     ensures { result ≡ is_new_label labels.now name.now }
 {
@@ -50,8 +50,8 @@ pub(crate) fn may_be_label(labels: &[Label], name: &[u8]) -> bool
     !name.is_empty() && !is_number && !has_slash && !is_taken
 }
 
-/// Converts the error of the tokens after a label to the error of the whole line, in which the label counts as a token
-/// too.
+/// Converts an error in the tokens after a label to an error in the whole line. The label is itself a token of the
+/// whole line, so the place of the error is one higher.
 pub(crate) fn after_label(error: LineError) -> LineError
     ensures { result ≡ error_after_label error }
 {

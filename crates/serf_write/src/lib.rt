@@ -1,11 +1,13 @@
-//! Reads schedules that a person writes, and returns them in the words of a schedule. A person may write names in place
-//! of numbers, texts in place of hex, and labels for packets.
+//! Converts a schedule written by a person into the text of a schedule. In a written schedule, a person may use names
+//! instead of numbers, texts instead of hex digits, and labels for packets.
 #![tactic(auto)]
 
 mod actions;
+mod filters;
 mod labels;
 mod query_spec;
 mod said;
+mod scanner;
 mod schedule;
 mod settings;
 mod token;

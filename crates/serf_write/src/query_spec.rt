@@ -1,27 +1,29 @@
-//! Reads the query of a line, and its options.
+//! Reads the query in a line together with the query's options.
 
 ghost use Rattle.std.specs.Prelude.{◌≡◌, ◌==◌, ◌<◌, IfOk, position};
 ghost use Rattle.serf_write.specs.Gives.{Gives};
 ghost use Rattle.serf_write.specs.Queries.{option_value, options_from, options_in, plain_query, query_moment, query_of, with_option, with_pair};
 
+use crate::filters::filter;
 use crate::settings::{following, word_in};
 use crate::token::Token;
 use crate::values::{between, bytes_at, halves, time, time_at, word};
 use crate::word_error::{Expected, LineError, bad};
 use serf_agent::{BytesList, QueryParams};
 use serf_model::{Act, Boxed, NewQuery};
-use serf_text::{hex_bytes, is_word, number};
+use serf_text::{is_word, number};
 use serf_wire::Bytes;
 use std::alloc::Global;
 
-/// The ID of a query and how it is fired, as the options of its line say.
+/// The ID of a query, and the parameters with which an agent fires the query. The options in the line of a query set
+/// both its ID and its parameters.
 #[derive(Drop)]
 pub(crate) struct QuerySpec {
     pub(crate) id: u32,
     pub(crate) params: QueryParams,
 }
 
-/// Returns the ID of a query and how it is fired if its line has no options: ID 0, and a timeout of one second.
+/// Returns the ID and the parameters of a query whose line has no options. The ID is 0, and the timeout is one second.
 fn plain(alloc: Global) -> QuerySpec
     ensures { result ≡ plain_query }
 {
@@ -40,8 +42,8 @@ fn plain(alloc: Global) -> QuerySpec
     }
 }
 
-/// Applies the option `key` with its `value`. Both are at `place`.
-fn take_value(
+/// Applies the option `key` with the value `value`. The word that contains the option is at `place`.
+fn apply_value(
     alloc: Global,
     query_spec: &mut QuerySpec,
     place: usize,
@@ -62,18 +64,16 @@ fn take_value(
             None => return Err(bad(place, Expected::Option)),
         }
     } else if is_word(key, b"filter") {
-        match hex_bytes(alloc, value)? {
-            Some(filter) => query_spec.params.filters.push(filter)?,
-            None => return Err(bad(place, Expected::Option)),
-        }
+        let filter = filter(alloc, place, value)?;
+        query_spec.params.filters.push(filter)?;
     } else {
         return Err(bad(place, Expected::Option));
     }
     Ok(())
 }
 
-/// Applies an option of a query that is a key with its value.
-fn take_pair(
+/// Applies a query option that consists of a key, an equals sign and a value.
+fn apply_pair(
     alloc: Global,
     query_spec: &mut QuerySpec,
     place: usize,
@@ -83,14 +83,14 @@ fn take_pair(
         (with_pair place query_spec.old word.now (position (λ b. b == 61) word.now)) }
 {
     match halves(word, b'=') {
-        Some((key, value)) => take_value(alloc, query_spec, place, key, value),
+        Some((key, value)) => apply_value(alloc, query_spec, place, key, value),
         None => Err(bad(place, Expected::Option)),
     }
 }
 
-/// Applies an option of a query: a single word, or a key with its value.
+/// Applies the query option `word`. The option is either a single word, or a key with a value.
 #[tactic(auto, unfolding(crate::specs::Queries::with_option))]
-fn take_word(
+fn apply_option(
     alloc: Global,
     query_spec: &mut QuerySpec,
     place: usize,
@@ -105,12 +105,13 @@ fn take_word(
         query_spec.params.no_broadcast = true;
         Ok(())
     } else {
-        take_pair(alloc, query_spec, place, word)
+        apply_pair(alloc, query_spec, place, word)
     }
 }
 
-/// Applies `tokens`, which are options of a query. The first of them is at the place `first` of its line.
-fn take_words(
+/// Applies the options in `tokens` to `query_spec`, and returns the result. The first of these tokens is at place
+/// `first` of the line.
+fn apply_options(
     alloc: Global,
     query_spec: QuerySpec,
     first: usize,
@@ -125,7 +126,7 @@ fn take_words(
     'options: loop {
         match rest.split_first() {
             Some((token, more)) => {
-                take_word(alloc, &mut query_spec, place, word_in(token))?;
+                apply_option(alloc, &mut query_spec, place, word_in(token))?;
                 place += 1;
                 rest = more;
             }
@@ -134,7 +135,8 @@ fn take_words(
     }
 }
 
-/// Reads the moment of a query: the time after the word `at` if this word is at the fifth place, and 0 otherwise.
+/// Reads the moment of a query in nanoseconds. If the fifth token is the word `at`, the moment follows this word, and
+/// otherwise the moment is 0.
 #[tactic(auto, unfolding(crate::specs::Queries::query_moment))]
 fn moment(tokens: &[Token]) -> Result<u64, LineError>
     ensures { Gives (λ n. n) result (query_moment tokens.now) }
@@ -146,20 +148,21 @@ fn moment(tokens: &[Token]) -> Result<u64, LineError>
     }
 }
 
-/// Reads the options of a query, which are the tokens after the payload, or after the moment if there is one.
+/// Reads the options of a query. The options are the tokens after the payload, or after the moment if the line contains
+/// one.
 #[tactic(auto, unfolding(crate::specs::Queries::options_in))]
 fn options(alloc: Global, tokens: &[Token]) -> Result<QuerySpec, LineError>
     ensures { Gives (λ a. a) result (options_in tokens.now) }
 {
     if is_word(word(tokens, 5), b"at") {
-        take_words(alloc, plain(alloc), 7, following(tokens, 6))
+        apply_options(alloc, plain(alloc), 7, following(tokens, 6))
     } else {
-        take_words(alloc, plain(alloc), 5, following(tokens, 4))
+        apply_options(alloc, plain(alloc), 5, following(tokens, 4))
     }
 }
 
-/// Reads a `query` line: from place 3 on, it has the name and the payload of the query, and optionally its moment and
-/// options.
+/// Reads a `query` line. From place 3 on, the line contains the name and the payload of the query, and may also contain
+/// the query's moment and options.
 #[tactic(auto, unfolding(crate::specs::Queries::query_of))]
 pub(crate) fn query(alloc: Global, tokens: &[Token]) -> Result<Act, LineError>
     ensures { Gives (λ a. a) result (query_of tokens.now) }

@@ -1,4 +1,4 @@
-//! Reads what a line of actions says, depending on the word with which it begins.
+//! Reads a line of actions. The first word of the line decides how the rest is read.
 
 ghost use Rattle.std.specs.Prelude.{◌≡◌};
 ghost use Rattle.serf_write.specs.Gives.{Gives};
@@ -22,21 +22,21 @@ use serf_schedule::{Command, Verb as ReplayVerb, command_in};
 use serf_text::is_word;
 use std::alloc::Global;
 
-/// What a line of actions does.
+/// The verb of a line of actions.
 #[derive(Clone, Copy)]
 pub(crate) enum Verb {
-    /// An agent does what this word means in a schedule.
+    /// An agent performs the act that this verb of schedules names.
     Act(ReplayVerb),
     /// Bytes are injected.
     Inject,
     Query,
-    /// Bytes are injected, and an agent receives them.
+    /// Bytes are injected as a packet, and an agent receives this packet.
     Give,
-    /// Bytes are injected, and an agent merges them.
+    /// Bytes are injected as a packet, and an agent merges this packet.
     Take,
 }
 
-/// Returns the verb that `word` names, or `None` if it names none.
+/// Returns the verb that `word` names, or `None` for any other word.
 #[tactic(auto, unfolding(crate::specs::Verbs::verb_of))]
 fn verb_in(word: &[u8]) -> Option<Verb>
     ensures { result ≡ verb_of word.now }
@@ -52,7 +52,7 @@ fn verb_in(word: &[u8]) -> Option<Verb>
     }
 }
 
-/// Reads what an agent does in a line with the verb `verb`, which is a word of schedules.
+/// Reads an agent's act from a line with the verb `verb`, which schedules use as well.
 #[tactic(auto, unfolding(crate::specs::Lines::bare_of))]
 fn act(
     alloc: Global,
@@ -74,7 +74,8 @@ fn act(
     }
 }
 
-/// Reads the action of a line with the verb `verb`, which is a word of schedules: its agent, and what the agent does.
+/// Reads the action from a line with the verb `verb`, which schedules use as well. The action consists of an agent and
+/// the agent's act.
 fn acting(
     alloc: Global,
     verb: ReplayVerb,
@@ -90,7 +91,7 @@ fn acting(
     Ok(Operation::One(Action::Of { agent, act }))
 }
 
-/// Reads the action of a line in which an agent fires a query.
+/// Reads the action from a line in which an agent fires a query.
 fn asking(alloc: Global, agents: &[Config], tokens: &[Token]) -> Result<Operation, LineError>
     ensures { Gives actions_of result (by_agent agents.now tokens.now (query_of tokens.now)) }
 {
@@ -99,7 +100,7 @@ fn asking(alloc: Global, agents: &[Config], tokens: &[Token]) -> Result<Operatio
     Ok(Operation::One(Action::Of { agent, act }))
 }
 
-/// Reads what a line with the verb `verb` does. `sent` is the number of packets that were sent before it.
+/// Reads the actions from a line with the verb `verb`. `sent` is the number of packets that the earlier lines sent.
 fn operation(
     alloc: Global,
     verb: Verb,
@@ -119,9 +120,9 @@ fn operation(
     }
 }
 
-/// Reads what a line of actions does. `sent` is the number of packets that were sent before it.
+/// Reads the actions from a line. `sent` is the number of packets that the earlier lines sent.
 #[tactic(auto, unfolding(crate::specs::Written::acts_said))]
-pub(crate) fn said_operation(
+pub(crate) fn read_operation(
     alloc: Global,
     agents: &[Config],
     labels: &[Label],

@@ -1,39 +1,27 @@
-//! Splits a line into its tokens.
+//! The tokens of a line, and the texts in quotes.
 
-ghost use Rattle.std.specs.Prelude.{◌≡◌, ◌==◌, ◌<◌, ◌++◌, ◌∷◌, IfOk, OnOk, List, MatchResult, None, Option, ℕ, if◌then◌else◌, length, false, true, []};
-ghost use Rattle.std.specs.List.{slice_split};
-ghost use Rattle.serf_text.specs.Words.{words_of};
-ghost use Rattle.serf_write.specs.Gives.{Fails, Gives};
-ghost use Rattle.serf_write.specs.Tokens.{before_return, escaped_of, tokens_from, tokens_of, text_within, with_escaped, words_after};
+ghost use Rattle.std.specs.Prelude.{◌≡◌, IfOk, List, None, Option, ℕ, if◌then◌else◌};
+ghost use Rattle.serf_write.specs.Texts.{escaped_of, text_within, with_escaped};
 
-use crate::word_error::{Expected, LineError, bad};
 use hex::FromHexError;
 use serf_text::split_once;
 use serf_wire::Bytes;
 use std::alloc::{AllocError, Global};
 
-/// A token of a line: a word between spaces, or a text between quotes.
+/// A token of a line, which is either a word between spaces, or a text in quotes.
+///
+/// If a quote directly follows a word that contains `=`, the quoted text is part of this word. A word of this kind
+/// contains the text exactly as it is written in the line, including the quotes.
 #[derive(Drop)]
 pub enum Token {
     Word(Bytes),
     Text(Bytes),
 }
 
-/// Returns `line` without the carriage return at its end, if it has one.
-fn without_return(line: &[u8]) -> &[u8]
-    ensures { result.now ≡ before_return line.now }
-{
-    let size = line.len();
-    if size > 0 && line[size - 1] == b'\r' {
-        &line[..size - 1]
-    } else {
-        line
-    }
-}
-
-/// Appends to `text` what `rest`, the part after a backslash, stands for. It has to be an `x`, two hex digits and more
-/// text. Returns whether it has this form. If it doesn't, nothing is appended.
-fn write_escaped(alloc: Global, rest: &[u8], text: &mut Vec<u8>) -> Result<bool, AllocError>
+/// Decodes `rest`, which contains the bytes after a backslash, and appends the decoded byte to `text`. `rest` has to
+/// begin with an `x` and two hex digits. Returns whether `rest` begins in this way. If `rest` begins in any other way,
+/// the function appends nothing.
+fn read_escape(alloc: Global, rest: &[u8], text: &mut Vec<u8>) -> Result<bool, AllocError>
     ensures { IfOk result (λ is_put. (next : List ℕ → Option (List ℕ))
         → with_escaped text.old.items (escaped_of rest.now) next
         ≡ (if is_put then next text.new.items else None)) }
@@ -52,9 +40,10 @@ fn write_escaped(alloc: Global, rest: &[u8], text: &mut Vec<u8>) -> Result<bool,
     }
 }
 
-/// Returns the text between two quotes, or `None` if a backslash in it isn't followed by `x` and two hex digits.
-#[tactic(auto, unfolding(crate::specs::Tokens::text_within))]
-fn text(alloc: Global, quoted: &[u8]) -> Result<Option<Bytes>, AllocError>
+/// Decodes `quoted`, the bytes between two quotes, and returns the resulting text. Returns `None` if a backslash in
+/// `quoted` isn't followed by `x` and two hex digits.
+#[tactic(auto, unfolding(crate::specs::Texts::text_within))]
+pub(crate) fn text(alloc: Global, quoted: &[u8]) -> Result<Option<Bytes>, AllocError>
     ensures { IfOk result (λ found. found ≡ text_within quoted.now) }
 {
     let (first, more) = split_once(quoted, b'\\');
@@ -64,87 +53,12 @@ fn text(alloc: Global, quoted: &[u8]) -> Result<Option<Bytes>, AllocError>
     };
     'parts: loop {
         let (part, more) = split_once(rest, b'\\');
-        if !write_escaped(alloc, part, &mut text)? {
+        if !read_escape(alloc, part, &mut text)? {
             return Ok(None);
         }
         match more {
             Some(next) => rest = next,
             None => return Ok(Some(Bytes::from_vec(text))),
-        }
-    }
-}
-
-/// Appends `token` to `tokens`.
-fn write_token(tokens: &mut Vec<Token>, token: Token) -> Result<(), AllocError>
-    ensures { OnOk result (tokens.new.items ≡ tokens.old.items ++ token ∷ []) }
-{
-    tokens.push(token)?;
-    Ok(())
-}
-
-/// Appends the words of `part`, which is outside of quotes, to `tokens`. Returns whether a comment ends the line.
-fn write_words(alloc: Global, part: &[u8], tokens: &mut Vec<Token>) -> Result<bool, AllocError>
-    ensures { IfOk result (λ is_over. words_after tokens.old.items (words_of part.now)
-        ≡ record { tokens = tokens.new.items; is_over = is_over }) }
-{
-    let mut rest = part;
-    'words: loop {
-        let (word, more) = split_once(rest, b' ');
-        if !word.is_empty() {
-            if word[0] == b'#' {
-                return Ok(true);
-            }
-            write_token(tokens, Token::Word(Bytes::copy_of(alloc, word)?))?;
-        }
-        match more {
-            Some(next) => rest = next,
-            None => return Ok(false),
-        }
-    }
-}
-
-/// Appends the text after an opening quote to `tokens`, and returns what follows the closing quote.
-fn write_text<'a>(
-    alloc: Global,
-    quoted: &'a [u8],
-    tokens: &mut Vec<Token>,
-) -> Result<&'a [u8], LineError>
-    ensures parts { MatchResult result
-        (λ rest. tokens_from true tokens.old.items (slice_split (λ b. b == 34) quoted.entry.now)
-        ≡ tokens_from false tokens.new.items (slice_split (λ b. b == 34) rest.now)) (λ error. Fails
-        error (tokens_from true tokens.old.items (slice_split (λ b. b == 34) quoted.entry.now))) }
-    ensures shorter { IfOk result (λ rest. length rest.now < length quoted.entry.now) }
-{
-    let (inside, more) = split_once(quoted, b'"');
-    match more {
-        None => Err(bad(tokens.len() + 1, Expected::ClosingQuote)),
-        Some(rest) => match text(alloc, inside)? {
-            Some(text) => {
-                write_token(tokens, Token::Text(text))?;
-                Ok(rest)
-            }
-            None => Err(bad(tokens.len() + 1, Expected::Escape)),
-        },
-    }
-}
-
-/// Returns the tokens of a line: words between spaces and texts between quotes, up to a word that begins with `#`.
-///
-/// A carriage return at the end of the line is ignored. In a text, `\x` and two hex digits stand for a byte.
-#[tactic(auto, unfolding(crate::specs::Tokens::tokens_of))]
-pub(crate) fn tokens(alloc: Global, line: &[u8]) -> Result<Vec<Token>, LineError>
-    ensures { Gives (λ tokens. tokens.items) result (tokens_of line.now) }
-{
-    let mut tokens = Vec::new(alloc);
-    let mut rest = without_return(line);
-    'parts: loop {
-        let (part, more) = split_once(rest, b'"');
-        if write_words(alloc, part, &mut tokens)? {
-            return Ok(tokens);
-        }
-        match more {
-            Some(quoted) => rest = write_text(alloc, quoted, &mut tokens)?,
-            None => return Ok(tokens),
         }
     }
 }

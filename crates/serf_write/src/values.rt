@@ -1,4 +1,5 @@
-//! Reads what the tokens of a line stand for. The place of a token is its number in the line, counted from 1.
+//! Reads values from the tokens of a line. The place of a token is its number in the line, and tokens are counted from
+//! 1.
 
 ghost use Rattle.std.specs.Prelude.{◌≡◌, ◌==◌, ◌+◌, ◌<◌, ◌≤◌, ℕ, IfOk, IfSome, MatchOption, drop, length, not, position, take};
 ghost use Rattle.std.specs.Char.{is_ascii_digit};
@@ -6,7 +7,7 @@ ghost use Rattle.std.specs.Str.{bytes_eq};
 ghost use Rattle.std.specs.Option.{option_map};
 ghost use Rattle.serf_text.specs.Words.{between};
 ghost use Rattle.serf_write.specs.Gives.{Gives};
-ghost use Rattle.serf_write.specs.Values.{agent_in, agent_named, agent_said, bytes_in, bytes_or_none, bytes_said, ends_after, label_named, mode_in, moment_in, number_in, packet_after, packet_cut, packet_in, packet_of, token_at, sink_call_in, time_in, time_of, times, unit_of, word_at, word_of};
+ghost use Rattle.serf_write.specs.Values.{agent_in, agent_named, agent_said, bytes_in, payload_in, bytes_said, ends_after, label_named, mode_in, moment_in, number_in, packet_after, packet_cut, packet_in, packet_of, token_at, sink_call_in, time_in, time_of, times, unit_of, word_at, word_of};
 
 use crate::labels::Label;
 use crate::token::Token;
@@ -18,14 +19,15 @@ use serf_text::{choice, hex_bytes, is_word, number};
 use serf_wire::Bytes;
 use std::alloc::{AllocError, Global};
 
-/// Returns the token at `place`. Place 0 also means the first token.
+/// Returns the token at `place`. Place 0 and place 1 both refer to the first token.
 pub(crate) fn nth(tokens: &[Token], place: usize) -> Option<&Token>
     ensures { option_map (λ p. p.now) result ≡ token_at place tokens.now }
 {
     tokens.get(place.saturating_sub(1))
 }
 
-/// Returns the bytes of the word at `place`, or no bytes if the token there is a text or is missing.
+/// Returns the bytes of the word at `place`. If the token at `place` is a text or is missing, the function returns no
+/// bytes.
 pub(crate) fn word(tokens: &[Token], place: usize) -> &[u8]
     ensures { result.now ≡ word_at place tokens.now }
 {
@@ -35,7 +37,7 @@ pub(crate) fn word(tokens: &[Token], place: usize) -> &[u8]
     }
 }
 
-/// Returns `number` if it is from `low` to `high`, and `None` otherwise.
+/// Returns `number` if it is at least `low` and at most `high`, and `None` otherwise.
 pub(crate) fn between(number: Option<u64>, low: u64, high: u64) -> Option<u64>
     ensures value { result ≡ between low high number }
     ensures within { IfSome result (λ n. n ≤ high) }
@@ -48,7 +50,7 @@ pub(crate) fn between(number: Option<u64>, low: u64, high: u64) -> Option<u64>
     }
 }
 
-/// Returns the index of the first `byte` in `word`.
+/// Returns the index at which `byte` first occurs in `word`, or `None` if `word` doesn't contain `byte`.
 fn place_of(word: &[u8], byte: u8) -> Option<usize>
     ensures place { result ≡ position (λ b. b == byte) word.now }
     ensures within { IfSome result (λ at. at < length word.now) }
@@ -56,7 +58,8 @@ fn place_of(word: &[u8], byte: u8) -> Option<usize>
     word.iter().position(|b| *b == byte)
 }
 
-/// Returns the bytes of `word` before the first `byte` and those after it, or `None` if `word` doesn't contain `byte`.
+/// Splits `word` at the first occurrence of `byte`, and returns the bytes before and after it. Returns `None` if `word`
+/// doesn't contain `byte`.
 pub(crate) fn halves(word: &[u8], byte: u8) -> Option<(&[u8], &[u8])>
     ensures { MatchOption result (position (λ b. b == byte) word.now ≡ None) (λ parts. (at : ℕ)
         × (position (λ b. b == byte) word.now ≡ Some at) × (parts.0.now ≡ take at word.now)
@@ -66,7 +69,8 @@ pub(crate) fn halves(word: &[u8], byte: u8) -> Option<(&[u8], &[u8])>
     Some((&word[..at], &word[at + 1..]))
 }
 
-/// Checks that a line has at most `count` tokens. If it has more, the error says that the line should end there.
+/// Checks that a line has at most `count` tokens. If the line has more tokens, the function returns an error stating
+/// that the line should end before the first extra token.
 #[tactic(auto, unfolding(crate::specs::Values::ends_after))]
 pub(crate) fn end_after(tokens: &[Token], count: usize) -> Result<(), LineError>
     requires { count < 100 }
@@ -87,7 +91,7 @@ pub(crate) fn number_at(tokens: &[Token], place: usize) -> Result<u64, LineError
     or_bad(number(word(tokens, place)), place, Expected::Number)
 }
 
-/// Returns how many nanoseconds the unit `word` has.
+/// Returns the length in nanoseconds of the unit that `word` names.
 fn unit(word: &[u8]) -> Option<u64>
     ensures { result ≡ unit_of word.now }
 {
@@ -104,14 +108,15 @@ fn unit(word: &[u8]) -> Option<u64>
     }
 }
 
-/// Returns the product of two numbers, if both are there and the product fits into 64 bits.
+/// Returns the product of `number` and `unit`. Returns `None` if either factor is missing or if the product doesn't fit
+/// into 64 bits.
 fn product(number: Option<u64>, unit: Option<u64>) -> Option<u64>
     ensures { result ≡ times number unit }
 {
     number?.checked_mul(unit?)
 }
 
-/// Returns the index of the first byte of `word` that isn't a digit, or `None` if `word` has only digits.
+/// Returns the index of the first byte in `word` that isn't a digit, or `None` if `word` consists only of digits.
 fn end_of_digits(word: &[u8]) -> Option<usize>
     ensures place { result ≡ position (λ b. not (is_ascii_digit b)) word.now }
     ensures within { IfSome result (λ at. at < length word.now) }
@@ -119,8 +124,8 @@ fn end_of_digits(word: &[u8]) -> Option<usize>
     word.iter().position(|b| !b.is_ascii_digit())
 }
 
-/// Returns the time that `word` says, in nanoseconds and below 2^64. The word has digits, and then `ns`, `us`, `ms`,
-/// `s` or no unit.
+/// Returns the time in nanoseconds that `word` states. The word has to consist of digits, followed by `ns`, `us`, `ms`,
+/// `s` or no unit. Returns `None` if `word` has any other form, or if the time is 2^64 nanoseconds or more.
 #[tactic(auto, unfolding(crate::specs::Values::time_of))]
 pub(crate) fn time(word: &[u8]) -> Option<u64>
     ensures { result ≡ time_of word.now }
@@ -131,7 +136,7 @@ pub(crate) fn time(word: &[u8]) -> Option<u64>
     }
 }
 
-/// Reads the word at `place` as a time, in nanoseconds.
+/// Reads the word at `place` as a time, and returns the time in nanoseconds.
 #[tactic(auto, unfolding(crate::specs::Values::time_in))]
 pub(crate) fn time_at(tokens: &[Token], place: usize) -> Result<u64, LineError>
     ensures { Gives (λ n. n) result (time_in place tokens.now) }
@@ -139,8 +144,8 @@ pub(crate) fn time_at(tokens: &[Token], place: usize) -> Result<u64, LineError>
     or_bad(time(word(tokens, place)), place, Expected::Time)
 }
 
-/// Reads the moment after the word `at`, which is at `place`. The moment is in nanoseconds, and is 0 if the line ends
-/// before `place`.
+/// Reads the moment that follows the word `at`, which has to be token number `place` (counted from 1). The moment is in
+/// nanoseconds. If the line ends before `place`, the moment is 0.
 #[tactic(auto, unfolding(crate::specs::Values::moment_in))]
 pub(crate) fn moment_at(tokens: &[Token], place: usize) -> Result<u64, LineError>
     requires { place < 100 }
@@ -155,8 +160,8 @@ pub(crate) fn moment_at(tokens: &[Token], place: usize) -> Result<u64, LineError
     }
 }
 
-/// Returns the bytes that `token` stands for: a text, or hex digits.
-fn said_bytes(alloc: Global, token: Option<&Token>) -> Result<Option<Bytes>, AllocError>
+/// Returns the bytes that `token` represents. The token has to be a text, or a word that consists of hex digits.
+fn bytes_of_token(alloc: Global, token: Option<&Token>) -> Result<Option<Bytes>, AllocError>
     ensures { IfOk result (λ found. found ≡ bytes_said (option_map (λ p. p.now) token.entry)) }
 {
     match token {
@@ -166,32 +171,31 @@ fn said_bytes(alloc: Global, token: Option<&Token>) -> Result<Option<Bytes>, All
     }
 }
 
-/// Reads the bytes that the token at `place` stands for: a text, or hex digits.
+/// Reads bytes from the token at `place`, which has to be a text or a word that consists of hex digits.
 #[tactic(auto, unfolding(crate::specs::Values::bytes_in))]
 pub(crate) fn bytes_at(alloc: Global, tokens: &[Token], place: usize) -> Result<Bytes, LineError>
     ensures { Gives (λ b. b) result (bytes_in place tokens.now) }
 {
     or_bad(
-        said_bytes(alloc, nth(tokens, place))?,
+        bytes_of_token(alloc, nth(tokens, place))?,
         place,
         Expected::Bytes,
     )
 }
 
-/// Reads the bytes that the token at `place` stands for. There are no bytes if the line ends before `place`.
-#[tactic(auto, unfolding(crate::specs::Values::bytes_or_none))]
-pub(crate) fn optional_bytes_at(
-    alloc: Global,
-    tokens: &[Token],
-    place: usize,
-) -> Result<Bytes, LineError>
-    ensures { Gives (λ b. b) result (bytes_or_none place tokens.now) }
+/// Reads the payload of an event from the token at `place`. If the line ends before `place`, the payload is empty.
+#[tactic(auto, unfolding(crate::specs::Values::payload_in))]
+pub(crate) fn payload_at(alloc: Global, tokens: &[Token], place: usize) -> Result<Bytes, LineError>
+    ensures { Gives (λ b. b) result (payload_in place tokens.now) }
 {
     if tokens.len() < place {
-        Ok(Bytes::from_vec(Vec::new(alloc)))
-    } else {
-        bytes_at(alloc, tokens, place)
+        return Ok(Bytes::from_vec(Vec::new(alloc)));
     }
+    or_bad(
+        bytes_of_token(alloc, nth(tokens, place))?,
+        place,
+        Expected::Payload,
+    )
 }
 
 /// Returns the index of the agent with the name `name`.
@@ -211,8 +215,9 @@ fn named_agent(agents: &[Config], name: &[u8]) -> Option<u64>
     Some(place_of_agent(agents, name)? as u64)
 }
 
-/// Returns the number of the agent that `token` names. A word of digits is the number itself.
-fn said_agent(agents: &[Config], token: Option<&Token>) -> Option<u64>
+/// Returns the number of the agent that `token` names. If the token is a word that consists of digits, these digits are
+/// the agent's number.
+fn agent_of_token(agents: &[Config], token: Option<&Token>) -> Option<u64>
     ensures { result ≡ agent_said agents.now (option_map (λ p. p.now) token.entry) }
 {
     match token? {
@@ -230,7 +235,7 @@ pub(crate) fn agent_at(agents: &[Config], tokens: &[Token], place: usize) -> Res
     ensures { Gives (λ n. n) result (agent_in agents.now place tokens.now) }
 {
     or_bad(
-        said_agent(agents, nth(tokens, place)),
+        agent_of_token(agents, nth(tokens, place)),
         place,
         Expected::Agent,
     )
@@ -253,8 +258,8 @@ pub(crate) fn named_label<'a>(labels: &'a [Label], name: &[u8]) -> Option<&'a La
     labels.get(place_of_label(labels, name)?)
 }
 
-/// Returns the number, among all packets, of packet number `number` of the line of `label`. The packets of a line are
-/// counted from 0.
+/// Converts the number of a packet within its line to the packet's number among all packets. `label` is the label of
+/// the line, and `number` is the packet's number within the line, counted from 0.
 fn packet_from(label: Option<&Label>, number: Option<u64>) -> Option<u64>
     ensures { result ≡ packet_after (option_map (λ l. l.now) label.entry) number }
 {
@@ -266,7 +271,9 @@ fn packet_from(label: Option<&Label>, number: Option<u64>) -> Option<u64>
     }
 }
 
-/// Returns the number of the packet that `word` names: a label, or a label with the number of its packet after a slash.
+/// Returns the number of the packet that `word` names. A label alone names the first packet of its line. A label that
+/// is followed by a slash and a number names the packet with this number in the label's line. Packets in a line are
+/// numbered from 0.
 fn labelled_packet(labels: &[Label], word: &[u8]) -> Option<u64>
     ensures { result ≡ packet_cut labels.now word.now (position (λ b. b == 47) word.now) }
 {
@@ -276,8 +283,8 @@ fn labelled_packet(labels: &[Label], word: &[u8]) -> Option<u64>
     }
 }
 
-/// Returns the number of the packet that `word` names: the number itself, a label, or a label with the number of its
-/// packet.
+/// Returns the number of the packet that `word` names. The word either is the packet's number, or names the packet by a
+/// label.
 #[tactic(auto, unfolding(crate::specs::Values::packet_of))]
 fn packet(labels: &[Label], word: &[u8]) -> Option<u64>
     ensures { result ≡ packet_of labels.now word.now }
@@ -296,7 +303,7 @@ pub(crate) fn packet_at(labels: &[Label], tokens: &[Token], place: usize) -> Res
     or_bad(packet(labels, word(tokens, place)), place, Expected::Packet)
 }
 
-/// Reads how a state is merged: returns whether the word at `place` is `join` and not `sync`.
+/// Reads the word at `place`, which states how a state is merged. Returns true for `join` and false for `sync`.
 #[tactic(auto, unfolding(crate::specs::Values::mode_in))]
 pub(crate) fn mode_at(tokens: &[Token], place: usize) -> Result<bool, LineError>
     ensures { Gives (λ b. b) result (mode_in place tokens.now) }

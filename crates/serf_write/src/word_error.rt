@@ -1,10 +1,10 @@
-//! The errors of a line.
+//! The errors that a line of a written schedule can contain.
 
 use std::alloc::AllocError;
 use std::error::Error;
 use std::fmt;
 
-/// What is expected at the place of a wrong word. It is printed as a sentence.
+/// What the reader expected in place of a wrong word. Each value is printed as a sentence.
 #[derive(Clone, Copy, Debug, Drop, PartialEq, Eq)]
 pub enum Expected {
     ClosingQuote,
@@ -13,6 +13,7 @@ pub enum Expected {
     Command,
     AgentsFirst,
     NewName,
+    NameInQuotes,
     Setting,
     Bounds,
     Agent,
@@ -22,11 +23,13 @@ pub enum Expected {
     Count,
     Mode,
     SinkCall,
+    Payload,
     Coalesce,
     Tail,
     At,
     Time,
     Option,
+    Filter,
     End,
 }
 
@@ -43,6 +46,8 @@ impl fmt::Display for Expected {
                 "expected agent, fire, deliver, state, merge, query, respond, restart, break, inject, close, save, compact, give or take",
             Expected::AgentsFirst => "all agents have to be before the first action",
             Expected::NewName => "expected the agent's name, which no agent above has",
+            Expected::NameInQuotes =>
+                "expected the agent's name; a word of digits is an agent's number, so a name of digits is written in quotes",
             Expected::Setting =>
                 "expected events=N, queries=N, limit=N, querylimit=N, responselimit=N, responders=N, pertime=N, keep, ignore or keep-events",
             Expected::Bounds =>
@@ -55,12 +60,16 @@ impl fmt::Display for Expected {
             Expected::Count => "expected a number of at least 1",
             Expected::Mode => "expected join or sync",
             Expected::SinkCall => "expected append, flush, replace-old or replace-new",
+            Expected::Payload =>
+                "expected a text in quotes, bytes in hex digits, or - for none; or coalesce, or the end of the line",
             Expected::Coalesce => "expected coalesce or the end of the line",
             Expected::Tail => "expected tail with its bytes, or the end of the line",
             Expected::At => "expected at with a moment, or the end of the line",
             Expected::Time => "expected a time, as in 10ms: a number followed by ns, us, ms or s",
             Expected::Option =>
-                "expected id=N, timeout=TIME, ack, quiet or filter=HEX, or the end of the line",
+                "expected id=N, timeout=TIME, ack, quiet or filter=FILTER, or the end of the line",
+            Expected::Filter =>
+                "expected filter=node:NAME,NAME, filter=tag:NAME=EXPRESSION or filter=HEX; a name or an expression may be a text in quotes",
             Expected::End => "expected the end of the line before this word",
         };
         f.write_str(sentence)
@@ -69,20 +78,20 @@ impl fmt::Display for Expected {
 
 impl Error for Expected {}
 
-/// The first wrong word of a line, counted from 1, and what is expected there. If a word is missing, the place is one
-/// more than the number of words in the line.
+/// The place of the first wrong word in a line, and what was expected at this place. Places are counted from 1. If a
+/// word is missing, the place is one more than the number of words in the line.
 #[derive(Clone, Copy, Debug, Drop, PartialEq, Eq)]
 pub struct WordError {
     pub place: u64,
     pub expected: Expected,
 }
 
-/// Why a line is refused.
+/// The reason why a line is refused.
 #[derive(Clone, Copy, Drop)]
 pub(crate) enum LineError {
-    /// A word of the line is wrong.
+    /// A word in the line is wrong.
     Bad(WordError),
-    /// There was no memory for what the line says.
+    /// Memory ran out.
     OutOfMemory,
 }
 
@@ -100,7 +109,8 @@ impl From<AllocError> for LineError {
 ghost use Rattle.std.specs.Prelude.{◌≡◌};
 ghost use Rattle.serf_write.specs.Gives.{Gives, or_wrong};
 
-/// Returns the error of a line whose word at `place`, counted from 1, is wrong. `expected` says what is expected there.
+/// Returns the error for a line in which the word at `place` (counted from 1) is wrong. `expected` states what was
+/// expected instead of this word.
 pub(crate) fn bad(place: usize, expected: Expected) -> LineError
     ensures { result ≡ LineError.Bad (record { place = place; expected = expected }) }
 {
@@ -110,8 +120,8 @@ pub(crate) fn bad(place: usize, expected: Expected) -> LineError
     })
 }
 
-/// Returns the value in `found`, which the word at `place` means. If `found` is `None`, the error says that this
-/// word is wrong.
+/// Returns the value in `found`, which was read from the word at `place`. If `found` is `None`, the function returns an
+/// error stating that the word at `place` is wrong.
 pub(crate) fn or_bad<T>(found: Option<T>, place: usize, expected: Expected) -> Result<T, LineError>
     ensures { Gives (λ x. x) result (or_wrong place expected found) }
 {

@@ -12,9 +12,10 @@ ghost use Rattle.serf_write.specs.Written.{act_line, after_line, agent_line, lab
 
 use crate::actions::Operation;
 use crate::labels::{Label, after_label, label_in, may_be_label};
-use crate::said::said_operation;
+use crate::said::read_operation;
+use crate::scanner::tokens;
 use crate::settings::{add_agent, following};
-use crate::token::{Token, tokens};
+use crate::token::Token;
 use crate::values::word;
 use crate::word_error::{Expected, LineError, bad};
 use serf_model::Action;
@@ -25,7 +26,7 @@ use serf_world::{Roster, World};
 use std::alloc::{AllocError, Global};
 use std::marker::Model;
 
-/// Creates a cluster of `agents`, which has done nothing.
+/// Creates a cluster of `agents` in which no action has been carried out yet.
 fn new_world(alloc: Global, agents: &Roster) -> Result<World, AllocError>
     ensures { IfOk result (λ w. HasWorld agents.now [] w) }
 {
@@ -33,8 +34,8 @@ fn new_world(alloc: Global, agents: &Roster) -> Result<World, AllocError>
     World::new(alloc, roster)
 }
 
-/// Returns the cluster after `actions`: `world`, or a new cluster of `agents` if there is no action yet. Returns
-/// `AllocError` if memory ran out before, or runs out now.
+/// Returns the cluster after all of `actions`. The result is `world`, or a new cluster of `agents` if there is no
+/// action yet. Returns `AllocError` if memory ran out earlier, or runs out now.
 fn world_of(
     alloc: Global,
     world: Option<World>,
@@ -51,7 +52,7 @@ fn world_of(
     }
 }
 
-/// Does `action` in `world`.
+/// Carries out `action` in `world`.
 fn step(alloc: Global, world: &mut World, action: &Action) -> Result<(), AllocError>
     ensures { (configs : List Config) (done : List Action) → HasWorld configs done world.old
         → OnOk result (HasWorld configs (done ++ action.now ∷ []) world.new) }
@@ -60,9 +61,9 @@ fn step(alloc: Global, world: &mut World, action: &Action) -> Result<(), AllocEr
     Ok(())
 }
 
-/// Returns the cluster after `action`. `world` is the cluster after `actions`, if there is one. Returns `AllocError` if
-/// memory runs out, or if no line of a schedule can express `action`. But the lines of a written schedule never have an
-/// action of this kind.
+/// Carries out `action`, and returns the cluster after this action. `world` is the cluster after `actions`, or `None`
+/// if there is no cluster. Returns `AllocError` if memory runs out, or if no line of a schedule can express `action`.
+/// The lines of a written schedule never contain an action that a schedule can't express.
 fn world_after(
     alloc: Global,
     world: Option<World>,
@@ -82,7 +83,8 @@ fn world_after(
     Ok(world)
 }
 
-/// The agents, the actions and the labels of the lines so far, and the cluster that has done the actions.
+/// A reader of a written schedule. The reader keeps the agents, the actions and the labels of the lines that it has
+/// read, and the cluster after these actions.
 ///
 /// Contracts see only the agents, the actions and the labels.
 #[derive(Drop)]
@@ -90,7 +92,7 @@ pub(crate) struct Writing {
     agents: Roster,
     actions: Vec<Action>,
     labels: Vec<Label>,
-    /// The cluster after the actions. There is none before the first action, or if memory ran out.
+    /// The cluster after the actions, or `None` before the first action and after memory has run out.
     world: Option<World>,
 }
 
@@ -110,7 +112,7 @@ impl Model for Writing {
 }
 
 impl Writing {
-    /// Creates the state of a reader that has read no line yet. Allocates no memory.
+    /// Creates a reader that has read no line yet. Allocates no memory.
     pub(crate) fn new(alloc: Global) -> Writing
         ensures { result ≡ nothing }
     {
@@ -122,7 +124,7 @@ impl Writing {
         }
     }
 
-    /// Returns how many packets the actions so far sent. Returns `AllocError` if memory ran out before.
+    /// Returns the number of packets that the actions so far have sent. Returns `AllocError` if memory ran out earlier.
     fn sent(&self) -> Result<u64, AllocError>
         ensures { IfOk result (λ n. n ≡ sent_count self.now.configs self.now.actions) }
     {
@@ -133,7 +135,7 @@ impl Writing {
         }
     }
 
-    /// Does `action`, and appends it to the actions so far.
+    /// Carries out `action`, and appends it to the actions so far.
     fn act(&mut self, alloc: Global, action: Action) -> Result<(), AllocError>
         ensures { OnOk result (self.new
             ≡ record self.old { actions = self.old.actions ++ action ∷ [] }) }
@@ -145,7 +147,7 @@ impl Writing {
         Ok(())
     }
 
-    /// Does the actions of `operation` one after the other, and appends them to the actions so far.
+    /// Carries out the actions of `operation` one after the other, and appends them to the actions so far.
     fn act_all(&mut self, alloc: Global, operation: Operation) -> Result<(), LineError>
         ensures { Gives (λ _. self.new) result (with_acts self.old (actions_of operation)) }
     {
@@ -159,17 +161,19 @@ impl Writing {
         Ok(())
     }
 
-    /// Reads a line of actions, which has these `tokens` after its label, and does the actions.
+    /// Reads a line of actions, and carries out these actions. `tokens` contains the tokens of the line, without the
+    /// label if the line has one.
     fn add_actions(&mut self, alloc: Global, tokens: &[Token]) -> Result<(), LineError>
         ensures { Gives (λ _. self.new) result (act_line self.old tokens.now) }
     {
         let sent = self.sent()?;
         let agents = self.agents.as_slice();
-        let operation = said_operation(alloc, agents, self.labels.as_slice(), sent, tokens)?;
+        let operation = read_operation(alloc, agents, self.labels.as_slice(), sent, tokens)?;
         self.act_all(alloc, operation)
     }
 
-    /// Reads an agent line, and adds the agent. An agent line after an action is refused.
+    /// Reads an agent line, and adds the agent that the line describes. The function refuses an agent line that follows
+    /// an action.
     fn add_agent(&mut self, alloc: Global, tokens: &[Token]) -> Result<(), LineError>
         ensures { Gives (λ _. self.new) result (agent_line self.old tokens.now) }
     {
@@ -191,7 +195,7 @@ impl Writing {
         }
     }
 
-    /// Reads a line of actions with the label `name`. `tokens` are the tokens after the label.
+    /// Reads a line of actions with the label `name`. `tokens` contains the tokens that follow the label.
     fn add_labelled(
         &mut self,
         alloc: Global,
@@ -215,7 +219,7 @@ impl Writing {
         }
     }
 
-    /// Reads a line that has these `tokens`. A line without tokens says nothing.
+    /// Reads a line that consists of `tokens`. A line without tokens changes nothing.
     fn add_tokens(&mut self, alloc: Global, tokens: &[Token]) -> Result<(), LineError>
         ensures { Gives (λ _. self.new) result (said_by self.old tokens.now) }
     {
@@ -237,7 +241,8 @@ impl Writing {
         self.add_tokens(alloc, tokens.as_slice())
     }
 
-    /// Returns the schedule of all lines. The text of a schedule can express all its actions.
+    /// Returns the schedule that the lines describe. Each action in this schedule can be expressed in the text of a
+    /// schedule.
     pub(crate) fn into_schedule(self) -> Schedule
         ensures meant { parsed_of result ≡ schedule_meant self }
         ensures sayable { All IsSayable result.actions.items }

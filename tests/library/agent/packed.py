@@ -75,8 +75,8 @@ def lint(count, package):
     if shutil.which("lintian") is None:
         print("not run: lintian on the agent's package, since it is not installed")
         return
-    status, said = c_library.ran(["lintian", "--allow-root", package])
-    count.check("package: lintian", status == 0 and not re.search(r"^[EW]: ", said, re.M), said)
+    status, output = c_library.ran(["lintian", "--allow-root", package])
+    count.check("package: lintian", status == 0 and not re.search(r"^[EW]: ", output, re.M), output)
 
 
 def check(count, package, folder):

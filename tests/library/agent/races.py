@@ -25,13 +25,13 @@ def are_of_memberlist(said):
     )
 
 
-def ran(run):
+def run_under_detector(run):
     """A run of tests in which memberlist didn't race with itself, or the final one: its status, and what it printed."""
     for _ in range(TRIES):
-        status, said = run()
-        if status == 0 or not are_of_memberlist(said):
+        status, output = run()
+        if status == 0 or not are_of_memberlist(output):
             break
-    return status, said
+    return status, output
 
 
 def try_reports(count):

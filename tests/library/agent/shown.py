@@ -82,8 +82,8 @@ class Stage:
         return c_library.ran(["sh", "-ec", self.here(text)], cwd=self.top, env=self.env())
 
     def well(self, name, text, says=""):
-        status, said = self.ran(text)
-        self.count.check(name, status == 0 and re.search(says, said), (status, said[-1500:]))
+        status, output = self.ran(text)
+        self.count.check(name, status == 0 and re.search(says, output), (status, output[-1500:]))
 
     def soon_well(self, name, text, says):
         """As `well`, if the expected output may come a while later."""
@@ -213,9 +213,9 @@ def runs(stage, command):
     for name, events in RUNS.items():
         with open(os.path.join(stage.top, f"{name}.snapshot"), "w", encoding="ascii") as file:
             file.write(snapshot_of(events))
-    status, said = stage.ran(command.text)
+    status, output = stage.ran(command.text)
     shown = [block for _, block in pages.blocks(command.page) if block.startswith("TIME ")]
-    stage.count.check(command.name(), status == 0 and [said.strip()] == [block.strip() for block in shown], (status, said, shown))
+    stage.count.check(command.name(), status == 0 and [output.strip()] == [block.strip() for block in shown], (status, output, shown))
 
 
 def handled_once(stage):

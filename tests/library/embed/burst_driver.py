@@ -8,7 +8,7 @@ sys.path.insert(0, os.path.join(os.path.dirname(os.path.abspath(__file__)), ".."
 from serf_agent import Agent, AgentError, Code, Fired, FiredQuery, Foreign, Ignored, ReceivedAck, ReceivedEvent, ReceivedQuery, ReceivedResponse
 
 
-def query_words(name, handed, ack):
+def query_line(name, handed, ack):
     words = [name]
     if handed is not None:
         words += [str(handed.time), handed.name.decode(), "handed"]
@@ -21,11 +21,11 @@ def words_of(outcome):
     if isinstance(outcome, Fired):
         return ["fired", str(outcome.event.time), outcome.event.name.decode()]
     if isinstance(outcome, FiredQuery):
-        return query_words("asked", outcome.query, outcome.ack)
+        return query_line("asked", outcome.query, outcome.ack)
     if isinstance(outcome, ReceivedEvent):
         words = ["event", str(outcome.event.time), outcome.event.name.decode()]
     elif isinstance(outcome, ReceivedQuery):
-        words = query_words("query", outcome.query, outcome.ack)
+        words = query_line("query", outcome.query, outcome.ack)
     elif isinstance(outcome, ReceivedAck):
         words = ["ack", outcome.answer.sender.decode()]
     elif isinstance(outcome, ReceivedResponse):
@@ -39,7 +39,7 @@ def words_of(outcome):
     return words + (["sent on"] if outcome.rebroadcast else [])
 
 
-def done(agent, fill):
+def run_burst(agent, fill):
     """A burst whose outcomes are printed."""
     burst, end = agent.burst(), "ok"
     try:
@@ -58,7 +58,7 @@ def done(agent, fill):
     return burst.outcomes
 
 
-def starve(third, events, load):
+def run_out_of_memory(third, events, load):
     def fill(burst, filter):
         for packet in events:
             burst.receive(5, packet)
@@ -68,10 +68,10 @@ def starve(third, events, load):
         burst.receive(5, events[0])
 
     for filter in (b"\0\x91\xa5other", b"\0\x91\xa5third"):
-        done(third, lambda burst: fill(burst, filter))
+        run_burst(third, lambda burst: fill(burst, filter))
 
 
-def take_all(one, other, events, load, whole):
+def receive_all(one, other, events, load, whole):
     def fill(burst):
         for packet in (events[0], b"", events[1], events[0], b"\x03\x81\xa5LTim", load, b"\0", whole):
             burst.receive(5, packet)
@@ -81,9 +81,9 @@ def take_all(one, other, events, load, whole):
         burst.query(5, 9, b"load", timeout=9, want_ack=True, filters=[b"\0\x91\xa5other"])
         burst.receive(5, events[2])
 
-    outcomes = done(other, fill)
+    outcomes = run_burst(other, fill)
     reply = other.respond(5, outcomes[5].query.number, b"yes")
-    done(one, lambda burst: None)
+    run_burst(one, lambda burst: None)
 
     def answers(burst):
         for packet in (reply, reply):
@@ -91,7 +91,7 @@ def take_all(one, other, events, load, whole):
         for _ in range(5):
             burst.fire(b"again")
 
-    done(one, answers)
+    run_burst(one, answers)
 
 
 def main():
@@ -101,9 +101,9 @@ def main():
         load = one.query(1, 8, b"load", timeout=1000, want_ack=True).packet
         whole = one.local_state()
         with Agent(b"third", next(paths)) as third:
-            starve(third, events, load)
+            run_out_of_memory(third, events, load)
         with Agent(b"other", next(paths)) as other:
-            take_all(one, other, events, load, whole)
+            receive_all(one, other, events, load, whole)
 
 
 if __name__ == "__main__":

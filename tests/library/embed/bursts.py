@@ -32,8 +32,8 @@ def kept(folder, name):
 def try_bursts(count, language, places, words, **more):
     """Runs a driver with enough memory: the outcomes of each burst, in order, and at least one line of each clock."""
     folder = places.fresh("bursts")
-    status, said = starved.c_library.ran([*words, folder], **more)
-    lines = said.splitlines()
+    status, output = starved.c_library.ran([*words, folder], **more)
+    lines = output.splitlines()
     for name, wanted in (("bursts", FIRST), ("bursts of repeats", SECOND), ("mixed bursts", MIXED), ("bursts of answers", ANSWERS)):
         found, lines = lines[: len(wanted)], lines[len(wanted) :]
         count.check(f"{language}: {name}", status == 0 and found == wanted, f"{status}: {found}")
@@ -59,13 +59,13 @@ def try_starved(count, language, places, words, **more):
     for granted in range(MAX_GRANTED):
         folder = places.fresh("starved_bursts")
         env["SERF_AGENT_GRANTED"] = str(granted)
-        status, said = starved.c_library.ran([*words, folder], env=env, **more)
-        lines = said.splitlines()
+        status, output = starved.c_library.ran([*words, folder], env=env, **more)
+        lines = output.splitlines()
         end = next((line for line in lines if line == "ok" or line.startswith("out of memory")), None)
         whole = status == 0 and end is not None and is_whole(lines, end)
         times = [int(line.split(" ")[1]) for line in lines[: lines.index("ok", lines.index(end) + 1)] if line.startswith(("event", "fired"))] if whole else []
         # (the file of a burst that was cut has the lines of what it handed out)
-        count.check(f"{language}: a burst with {granted} requests for memory", whole and kept(folder, "third")[0] == max(times), f"{status}, {end}: {said[-900:]}")
+        count.check(f"{language}: a burst with {granted} requests for memory", whole and kept(folder, "third")[0] == max(times), f"{status}, {end}: {output[-900:]}")
         if not whole or end == "ok":
             break
         ends[end] = ends.get(end, 0) + 1

@@ -11,6 +11,7 @@ sys.path.insert(0, os.path.join(c_library.TOP, "bindings", "python"))
 from serf_agent import library as binding
 
 RUST = os.path.join(c_library.TOP, "bindings", "rust", "src")
+SYS = os.path.join(c_library.TOP, "bindings", "rust", "sys", "src")
 
 # A number's type in Rattle and in Rust, and in C.
 NUMBERS = {
@@ -43,6 +44,7 @@ class Header:
             ]
             for name, body in re.findall(r"^struct (\w+) \{(.*?)\};", text, re.M | re.S)
         }
+        self.version = int(re.search(r"^#define SERF_AGENT_VERSION (\d+)$", text, re.M)[1])
         self.numbers = {
             name: int(value)
             for body in re.findall(r"^enum \w+ \{(.*?)\};", text, re.M | re.S)
@@ -90,8 +92,8 @@ def layout_of(name, fields):
 
 def compare_library(count, places, header):
     """The library's global functions are exactly those of the header."""
-    status, said = c_library.ran(["nm", "-g", "--defined-only", places.library])
-    names = set(re.findall(r" T (\w+)$", said, re.M))
+    status, output = c_library.ran(["nm", "-g", "--defined-only", places.library])
+    names = set(re.findall(r" T (\w+)$", output, re.M))
     count.check(
         "the library's functions", status == 0 and names == set(header.functions), sorted(names ^ set(header.functions))
     )
@@ -254,11 +256,14 @@ def compare_faults(count, language, faults, header):
 def compare_rust(count, header, layout):
     """What the Rust binding declares: functions, structs, the order of its codes and reasons, and the numbers of packet errors."""
     texts = {}
-    for name in ("raw", "error", "outcome", "packet_error"):
-        with open(os.path.join(RUST, name + ".rs"), encoding="utf-8") as file:
+    for folder, name in ((SYS, "numbers"), (SYS, "structs"), (SYS, "calls"), (RUST, "error"), (RUST, "outcome"), (RUST, "packet_error")):
+        with open(os.path.join(folder, name + ".rs"), encoding="utf-8") as file:
             texts[name] = file.read()
-    raw = re.sub(r"/// What a call for memory answers.*", "", texts["raw"], flags=re.S)
-    compare_declared(count, "Rust", Declared([raw]), header, layout)
+    compare_declared(count, "Rust", Declared([texts["structs"], texts["calls"]]), header, layout)
+    numbers = {name: int(value) for name, value in re.findall(r"^pub const (\w+): u\d+ = (\d+);$", texts["numbers"], re.M)}
+    version = numbers.pop("SERF_AGENT_VERSION", None)
+    compare_numbers(count, "serf-agent-sys", numbers, header)
+    count.check("serf-agent-sys: all numbers, and the version", set(numbers) == set(header.numbers) and version == header.version, version)
     compare_limit(count, "Rust", header, os.path.join(RUST, "agent", "closing.rs"))
     for listed, kind, place in (("CODES", "Code", "error"), ("REASONS", "Reason", "outcome")):
         body = re.search(rf"const {listed}: .*? = \[(.*?)\];", texts[place], re.S)[1]

@@ -44,7 +44,7 @@ def packets():
 PACKETS = packets()
 
 
-def came(agent, time):
+def receive(agent, time):
     """The result of the event of this time: NEW, or why it is ignored."""
     received = agent.receive(1, PACKETS[time])
     if isinstance(received, Ignored):
@@ -55,7 +55,7 @@ def came(agent, time):
 def life(what, name, settings, events):
     """A life on a file, which ends as if killed; and the result of each event in it."""
     with Agent(b"keeps", path(name), settings) as agent:
-        check(what, [(time, came(agent, time)) for time, _ in events], events)
+        check(what, [(time, receive(agent, time)) for time, _ in events], events)
 
 
 def goes_on():
@@ -90,7 +90,7 @@ def on_and_off():
 
 def compacted():
     with Agent(b"keeps", path("compacted"), KEEPS) as agent:
-        check("events", [came(agent, time) for time in (3, 1)], [NEW, NEW])
+        check("events", [receive(agent, time) for time in (3, 1)], [NEW, NEW])
         agent.compact()
     check(
         "what a compaction keeps",

@@ -13,7 +13,7 @@ import threading
 
 sys.path.insert(0, os.path.join(os.path.dirname(os.path.abspath(__file__)), "..", "..", "..", "bindings", "python"))
 from serf_agent import Agent, AgentError, Broken, Code, Forked, Ignored, Library, Locked, MissingFolder, Settings, Store
-from serf_agent.store import owner_of
+from serf_agent.store import lock_owner
 
 FOLDER = sys.argv[1]
 passed = failed = 0
@@ -213,9 +213,9 @@ def owners():
         for text, wanted in LOCKS:
             with open(path("locks"), "w", encoding="ascii") as file:
                 file.write(text.replace("PLACE", place))
-            check(f"the owner by {text!r}", owner_of(path("owned"), path("locks")) == wanted, owner_of(path("owned"), path("locks")))
-        check("the owner without a list", owner_of(path("owned"), path("no list")) is None)
-    check("the owner of no file", owner_of(path("none")) is None)
+            check(f"the owner by {text!r}", lock_owner(path("owned"), path("locks")) == wanted, lock_owner(path("owned"), path("locks")))
+        check("the owner without a list", lock_owner(path("owned"), path("no list")) is None)
+    check("the owner of no file", lock_owner(path("none")) is None)
 
 
 def bounds():
@@ -260,9 +260,9 @@ def in_child(done):
         os._exit(0)
     os.close(writing)
     with os.fdopen(reading) as file:
-        said = file.read()
+        output = file.read()
     os.waitpid(child, 0)
-    return said
+    return output
 
 
 def said_of(call, words):

@@ -21,7 +21,7 @@ ssize_t __wrap_pread(int file, void *to, size_t len, off_t at);
 
 static bool is_starved;
 /* The maximum number of bytes that a read returns, and the length of the file. */
-static size_t most = 4096, end = 4096;
+static size_t max_len = 4096, end = 4096;
 
 void *__wrap_malloc(size_t size) {
     return is_starved ? NULL : __real_malloc(size);
@@ -29,7 +29,7 @@ void *__wrap_malloc(size_t size) {
 
 ssize_t __wrap_pread(int file, void *to, size_t len, off_t at) {
     size_t left = (size_t)at < end ? end - (size_t)at : 0;
-    len = len < most ? len : most;
+    len = len < max_len ? len : max_len;
     return __real_pread(file, to, len < left ? len : left, at);
 }
 
@@ -84,13 +84,13 @@ static void reads(const char *folder, const char *text) {
     uint8_t *found = (uint8_t *)"";
     size_t len = 9;
     open_store(folder);
-    most = 4;
+    max_len = 4;
     holds("a text that is read piece by piece", has(text));
     for (end = 0; end < strlen(text); end++) {
         holds("a file that became shorter", serf_agent_store_read(&store, &found, &len) == SERF_AGENT_STORE_FAILED && found == NULL && len == 0);
     }
     holds("a file that did not", has(text));
-    most = end = 4096;
+    max_len = end = 4096;
     is_starved = true;
     holds("no memory for a text", serf_agent_store_read(&store, &found, &len) == SERF_AGENT_STORE_NO_MEMORY && found == NULL && len == 0);
     is_starved = false;

@@ -45,9 +45,9 @@ def make(places):
         ["ar", "r", places.starved, piece],
     ]
     for words in steps:
-        status, said = c_library.ran(words)
+        status, output = c_library.ran(words)
         if status:
-            return said or f"{words[0]} failed"
+            return output or f"{words[0]} failed"
     return c_library.fault_of_shared(shared(places.starved), places.starved)
 
 
@@ -76,8 +76,8 @@ def try_calls(count, language, places, words, **more):
     for granted in range(MAX_GRANTED):
         folder = places.fresh("starved")
         env["SERF_AGENT_GRANTED"] = str(granted)
-        status, said = c_library.ran([*words, folder], env=env, **more)
-        lines = said.splitlines()
+        status, output = c_library.ran([*words, folder], env=env, **more)
+        lines = output.splitlines()
         ends = [line for line in lines if line in ("ok", "out of memory")]
         handed = [line for line in lines if re.match(r"\d", line)]
         # (each event is handed out exactly once)
@@ -86,7 +86,7 @@ def try_calls(count, language, places, words, **more):
         count.check(
             f"{language}: a merge with {granted} requests for memory",
             whole and kept == 5,
-            f"{status}, {kept}: {said[-600:]}",
+            f"{status}, {kept}: {output[-600:]}",
         )
         if "out of memory" in lines:
             parts.add(lines.index("out of memory"))

@@ -8,7 +8,7 @@ sys.path.insert(0, os.path.join(os.path.dirname(os.path.abspath(__file__)), ".."
 from serf_agent.store import Broken, Store, StoreError
 
 
-def done(stores, number, call, words):
+def make_call(stores, number, call, words):
     if call == "open":
         if stores[number] is not None:
             stores[number].close()
@@ -31,7 +31,7 @@ def main():
         number, text = (1, line[2:]) if line.startswith("1 ") else (0, line)
         call, _, word = text.rstrip("\n").partition(" ")
         try:
-            print(done(stores, number, call, [word] if word else []) + "ok", flush=True)
+            print(make_call(stores, number, call, [word] if word else []) + "ok", flush=True)
         except StoreError as error:
             print(type(error).__name__ if type(error) is not StoreError else "Failed", flush=True)
 

@@ -15,6 +15,9 @@ UNKNOWN = object()
 # What a name or a payload may be: some are alike, and some spell parts of lines.
 PARTS = [b"", b"a", b"b", b"ab", b"deploy", b"\n", b"#done 9", bytes(range(256))]
 
+# A payload of an event that no restart restores, and how often events have it.
+LARGE, LARGE_ONES = bytes(9217), 0.002
+
 # How many texts of each kind a seed has, how often each of them is cut, and how many are cut at each byte.
 HOSTS, CHANGED, STRANGE, WITHOUT, CUTS = 40, 80, 80, 20, 3
 CUT_AT_EACH_BYTE = {"host": 1, "changed": 1, "strange": 1}
@@ -29,6 +32,7 @@ FOREIGN = [
     "#open 18446744073709551615 61 62", "#event 18446744073709551614 61 62", "#begun {time} 61 62\r", " #begun {time} 61 62", "begun {time} 61 62",
     "##begun {time} 61 62", "#begun\t{time} 61 62", "#", "", "#query {time} 7", "#least event-clock: {time}", "clock: {time}", "event-clock: {time}",
     "event-clock: 0{time}", "query-clock: {time}", "alive: a 127.0.0.1:7946", "not-alive: a", "leave", "coordinate: {{}}", "\x00\x00\x00",
+    "#ran {time}", "#ran {time} 61 62", "#ran {time} 61 62 deploy=0", "#process {time} 61 62 deploy 12 345 1b4e28ba-2fa1", "# filler",
 ]
 
 
@@ -41,7 +45,8 @@ class Draw:
     def event(self):
         draw = self.draw
         time = draw.choice([1, 2, 3, 4, 5, 6, 7, 8, 9, 10, 2**32, 2**64 - 2]) if draw.random() < 0.97 else draw.getrandbits(64) % (2**64 - 2) + 1
-        return time, draw.choice(PARTS[:5] if draw.random() < 0.9 else PARTS), draw.choice(PARTS[:5] if draw.random() < 0.9 else PARTS)
+        name, payload = (draw.choice(PARTS[:5] if draw.random() < 0.9 else PARTS) for _ in range(2))
+        return time, name, LARGE if draw.random() < LARGE_ONES else payload
 
     def spelled(self, line):
         """A line in another spelling, which means the same: more zeros in front of its time, or digits in upper case."""

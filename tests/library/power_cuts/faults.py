@@ -72,7 +72,7 @@ static bool is(const char *fault) {
         ("fsync(store->file) == 0 &&", '(is("opened_text") || fsync(store->file) == 0) &&'),
         ("fsync(store->folder) == 0", '(is("opened_name") || fsync(store->folder) == 0)'),
         ("\nenum serf_agent_store_error serf_agent_store_settle(", """
-static enum serf_agent_store_error take_late(struct serf_agent_store *store, struct serf_agent *agent, size_t len) {
+static enum serf_agent_store_error write_pending_late(struct serf_agent_store *store, struct serf_agent *agent, size_t len) {
     static struct serf_agent_bytes before;
     static uint8_t late[1 << 16];
     enum serf_agent_store_error fault = before.replaces ? serf_agent_store_replace(store, late, before.len)
@@ -83,8 +83,8 @@ static enum serf_agent_store_error take_late(struct serf_agent_store *store, str
 
 enum serf_agent_store_error serf_agent_store_settle("""),
         (
-            "fault = take(store, agent, about.len)",
-            'fault = is("order") ? take_late(store, agent, about.len) : take(store, agent, about.len)',
+            "error = write_pending(store, agent, pending.len)",
+            'error = is("order") ? write_pending_late(store, agent, pending.len) : write_pending(store, agent, pending.len)',
         ),
     ]
 }
@@ -124,8 +124,8 @@ def later(write, data):
 
 """),
         (
-            '(self._store.replace if about.replaces else self._store.append)(data.raw + (self._lines if about.replaces else b""))',
-            'later(self._store.replace if about.replaces else self._store.append, data.raw + (self._lines if about.replaces else b""))',
+            '(self._store.replace if pending.replaces else self._store.append)(data.raw + (self._host_lines if pending.replaces else b""))',
+            'later(self._store.replace if pending.replaces else self._store.append, data.raw + (self._host_lines if pending.replaces else b""))',
         ),
     ],
 }
@@ -240,8 +240,8 @@ fn later(store: &mut Store, replaces: bool, bytes: Vec<u8>) -> Result<(), crate:
 impl Agent {
     /// Opens"""),
         (
-            "let done = if about.replaces { self.store.replace(&bytes) } else { self.store.append(&bytes) };",
-            "let done = later(&mut self.store, about.replaces, bytes);",
+            "let write_result = if pending.replaces { self.store.replace(&bytes) } else { self.store.append(&bytes) };",
+            "let write_result = later(&mut self.store, pending.replaces, bytes);",
         ),
     ],
 }

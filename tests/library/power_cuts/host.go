@@ -1,4 +1,5 @@
-// A host over the package of bindings/go, driven by lines: tests/library/power_cuts/hosts.py says which.
+// This host uses the package of bindings/go. It reads its calls from standard input, one on each line.
+// tests/library/power_cuts/hosts.py describes them.
 package main
 
 import (
@@ -14,49 +15,53 @@ import (
 	"kitchenrue.example/serfagent"
 )
 
-// host is a store, or an agent over one, and the number of the query that was handed out last.
+// host has a store, or an agent over one, and the number of the query that was handed out last.
 type host struct {
-	store *serfagent.Store
-	agent *serfagent.Agent
-	asked uint64
-	// tracks is nil unless handlers are tracked.
-	tracks *tracking
+	store     *serfagent.Store
+	agent     *serfagent.Agent
+	lastQuery uint64
+	// tracking is nil unless handlers are tracked.
+	tracking *tracking
 }
 
-func (h *host) end() {
+// closeAll closes everything that is open.
+func (h *host) closeAll() {
 	if h.store != nil {
 		h.store.Close()
 	}
 	if h.agent != nil {
 		h.agent.Close()
 	}
-	if h.tracks != nil {
-		h.tracks.close()
+	if h.tracking != nil {
+		h.tracking.close()
 	}
 	*h = host{}
 }
 
-func (h *host) tellEvent(event *serfagent.Event) {
+// printEvent prints an event that was handed out, and tracks it if handlers are tracked.
+func (h *host) printEvent(event *serfagent.Event) {
 	if event != nil {
 		fmt.Printf("e %d %x\n", event.Time, event.Name)
-		if h.tracks != nil {
-			h.tracks.handOut(event)
+		if h.tracking != nil {
+			h.tracking.handOut(event)
 		}
 	}
 }
 
-func tellPacket(packet []byte) {
+// printPacket prints a packet that is to be sent, if there is one.
+func printPacket(packet []byte) {
 	if packet != nil {
 		fmt.Printf("p %x\n", packet)
 	}
 }
 
-func (h *host) tellQuery(handed *serfagent.PendingQuery, ack []byte) {
-	if handed != nil {
-		h.asked = handed.Number
-		fmt.Printf("h %d %d\n", handed.Time, handed.ID)
+// printQuery prints a query that was handed out, if there is one, and the ack that is to be sent.
+func (h *host) printQuery(pending *serfagent.PendingQuery, ack []byte) {
+	if pending != nil {
+		h.lastQuery = pending.Number
+		fmt.Printf("h %d %d\n", pending.Time, pending.ID)
 	}
-	tellPacket(ack)
+	printPacket(ack)
 }
 
 func (h *host) receive(packet []byte) error {
@@ -64,26 +69,26 @@ func (h *host) receive(packet []byte) error {
 	if err != nil {
 		return err
 	}
-	h.tellReceived(received)
+	h.printReceived(received)
 	return nil
 }
 
-func (h *host) tellReceived(received *serfagent.Received) {
-	h.tellEvent(received.Event)
-	h.tellQuery(received.Query, received.Ack)
+func (h *host) printReceived(received *serfagent.Received) {
+	h.printEvent(received.Event)
+	h.printQuery(received.Query, received.Ack)
 }
 
-func (h *host) tellAsked(asked *serfagent.FiredQuery) {
-	tellPacket(asked.Packet)
-	h.tellQuery(asked.Query, asked.Ack)
+func (h *host) printFiredQuery(query *serfagent.FiredQuery) {
+	printPacket(query.Packet)
+	h.printQuery(query.Query, query.Ack)
 }
 
-func (h *host) tellFired(event *serfagent.Event, packet []byte) {
-	h.tellEvent(event)
-	tellPacket(packet)
+func (h *host) printFiredEvent(event *serfagent.Event, packet []byte) {
+	h.printEvent(event)
+	printPacket(packet)
 }
 
-// burst receives and fires in one burst.
+// burst makes several calls of the agent in one burst: packets to receive, and events and queries to fire.
 func (h *host) burst(words string) error {
 	if h.agent == nil {
 		return serfagent.Empty
@@ -104,11 +109,11 @@ func (h *host) burst(words string) error {
 	for _, outcome := range outcomes {
 		switch {
 		case outcome.Received != nil:
-			h.tellReceived(outcome.Received)
+			h.printReceived(outcome.Received)
 		case outcome.Fired != nil:
-			h.tellFired(outcome.Fired.Event, outcome.Fired.Packet)
+			h.printFiredEvent(outcome.Fired.Event, outcome.Fired.Packet)
 		case outcome.FiredQuery != nil:
-			h.tellAsked(outcome.FiredQuery)
+			h.printFiredQuery(outcome.FiredQuery)
 		}
 	}
 	return err
@@ -117,7 +122,7 @@ func (h *host) burst(words string) error {
 func (h *host) merge(packet []byte, isJoin bool) error {
 	events, err := h.agent.Merge(packet, isJoin)
 	for _, event := range events {
-		h.tellEvent(event)
+		h.printEvent(event)
 	}
 	return err
 }
@@ -127,34 +132,36 @@ func (h *host) fire(name []byte) error {
 	if err != nil {
 		return err
 	}
-	h.tellFired(event, packet)
+	h.printFiredEvent(event, packet)
 	return nil
 }
 
 func (h *host) query(name []byte) error {
-	asked, err := h.agent.Query(0, 7, name, nil, serfagent.QueryParams{Timeout: 1000, WantAck: true})
+	query, err := h.agent.Query(0, 7, name, nil, serfagent.QueryParams{Timeout: 1000, WantAck: true})
 	if err != nil {
 		return err
 	}
-	h.tellAsked(asked)
+	h.printFiredQuery(query)
 	return nil
 }
 
+// respond answers the query that was handed out last, once.
 func (h *host) respond() error {
-	if h.asked == 0 {
+	if h.lastQuery == 0 {
 		return nil
 	}
-	number := h.asked
-	h.asked = 0
+	number := h.lastQuery
+	h.lastQuery = 0
 	packet, err := h.agent.Respond(0, number, nil)
 	if err != nil {
 		return err
 	}
-	tellPacket(packet)
+	printPacket(packet)
 	return nil
 }
 
-func (h *host) act(call string, data []byte) error {
+// runAgentCall makes one call of the open agent.
+func (h *host) runAgentCall(call string, data []byte) error {
 	if h.agent == nil {
 		return serfagent.Empty
 	}
@@ -170,34 +177,35 @@ func (h *host) act(call string, data []byte) error {
 	case "p":
 		return h.respond()
 	case "c":
-		if h.tracks != nil {
-			return h.tracks.compact(h.agent)
+		if h.tracking != nil {
+			return h.tracking.compact(h.agent)
 		}
 		return h.agent.Compact()
 	case "s":
-		return h.tracks.begin()
+		return h.tracking.begin()
 	case "d":
-		return h.tracks.end()
+		return h.tracking.end()
 	}
 	return h.agent.SaveMemberClock()
 }
 
-func (h *host) answer(call, word string) (err error) {
+// runLine runs the call of one line of the input.
+func (h *host) runLine(call, word string) (err error) {
 	data, _ := hex.DecodeString(word)
 	switch call {
 	case "open":
-		h.end()
+		h.closeAll()
 		h.store, err = serfagent.OpenStore(word)
 	case "o", "O":
-		h.end()
+		h.closeAll()
 		settings := serfagent.DefaultSettings()
 		settings.KeepEvents, settings.IgnoreOld = call == "O", call == "O"
 		h.agent, err = serfagent.Open("host", word, settings)
 	case "t":
-		h.end()
-		h.agent, h.tracks, err = openTracked(word)
+		h.closeAll()
+		h.agent, h.tracking, err = openTracked(word)
 	case "close", "x":
-		h.end()
+		h.closeAll()
 	case "b":
 		err = h.burst(word)
 	case "append":
@@ -205,23 +213,23 @@ func (h *host) answer(call, word string) (err error) {
 	case "replace":
 		err = h.store.Replace(data)
 	default:
-		err = h.act(call, data)
+		err = h.runAgentCall(call, data)
 	}
 	return err
 }
 
-// strace makes a thread's call of some number fail, so all calls are of the first thread.
+// strace makes the nth system call of a thread fail. So all system calls have to be made by the first thread.
 func init() { runtime.LockOSThread() }
 
 func main() {
-	// A file that may not grow is then an error of the write.
+	// If a file may not grow, writing to it then returns an error instead of ending the process.
 	signal.Ignore(syscall.SIGXFSZ)
 	h := &host{}
 	lines := bufio.NewScanner(os.Stdin)
 	lines.Buffer(nil, 1<<20)
 	for lines.Scan() {
 		words := strings.SplitN(lines.Text()+" ", " ", 2)
-		if h.answer(words[0], strings.TrimSuffix(words[1], " ")) == nil {
+		if h.runLine(words[0], strings.TrimSuffix(words[1], " ")) == nil {
 			fmt.Println("ok")
 		} else {
 			fmt.Println("Failed")

@@ -31,7 +31,7 @@ import faults
 import file_store
 
 # How many of the texts that the cuts of a life over filler leave are opened again.
-MOST_OPENED = 400
+MAX_OPENED = 400
 
 OWN = os.path.dirname(os.path.abspath(__file__))
 BINDINGS = os.path.join(c_library.TOP, "bindings")
@@ -59,10 +59,10 @@ class Store:
         return dict(os.environ, PYTHONDONTWRITEBYTECODE="1", **({faults.FAULT_NAME: fault} if fault else {}))
 
 
-def built(words, **more):
-    status, said = c_library.ran(words, **more)
+def build_or_raise(words, **more):
+    status, output = c_library.ran(words, **more)
     if status:
-        raise NotBuilt(f"{' '.join(words)[:200]}: {said[-1500:]}")
+        raise NotBuilt(f"{' '.join(words)[:200]}: {output[-1500:]}")
 
 
 class InC(Store):
@@ -77,7 +77,7 @@ class InC(Store):
                 *(os.path.join(OWN, name) for name in ("host.c", "tracking.c")),
                 *(os.path.join(copy, name) for name in ("serf_agent_store.c", "serf_agent_heap.c")),
             ]
-            built([os.environ.get("CC", "cc"), *c_library.STRICT, "-O1", "-o", path, *sources, places.library])
+            build_or_raise([os.environ.get("CC", "cc"), *c_library.STRICT, "-O1", "-o", path, *sources, places.library])
 
     def words(self, fault):
         return [self.paths[fault is not None]]
@@ -102,7 +102,7 @@ class InPython(Store):
 class InGo(Store):
     def __init__(self, places, with_little_filler=True):
         super().__init__("Go", [faults.NONE, *faults.FAULTS, *faults.FILLER_FAULTS])
-        self.has_filler, self.max_opened = True, MOST_OPENED
+        self.has_filler, self.max_opened = True, MAX_OPENED
         module = places.of("go")
         shutil.copytree(os.path.join(BINDINGS, "go"), module)
         os.mkdir(os.path.join(module, "power_cuts"))
@@ -117,7 +117,7 @@ class InGo(Store):
         for is_planted, path in self.paths.items():
             if is_planted:
                 faults.edit(module, faults.GO)
-            built(["go", "build", "-o", path, "./power_cuts"], cwd=module, env=env)
+            build_or_raise(["go", "build", "-o", path, "./power_cuts"], cwd=module, env=env)
 
     def words(self, fault):
         return [self.paths[fault is not None]]
@@ -138,7 +138,7 @@ class InRust(Store):
         for is_planted, path in self.paths.items():
             if is_planted:
                 faults.edit(crate, faults.RUST)
-            built(["cargo", "build", "--quiet", "--offline", "--example", "host"], cwd=crate, env=env)
+            build_or_raise(["cargo", "build", "--quiet", "--offline", "--example", "host"], cwd=crate, env=env)
             shutil.copyfile(os.path.join(target, "debug", "examples", "host"), path)
             os.chmod(path, 0o755)
 

@@ -9,7 +9,7 @@ import scripts
 from scripts import messages
 
 CLOCK = re.compile(rb"^(event-clock|query-clock|clock): (\d+)$")
-LEAST = re.compile(rb"#least event-clock: ([0-9]+)")
+MIN_LINE = re.compile(rb"#least event-clock: ([0-9]+)")
 EVENT = re.compile(rb"#event ([0-9]+) ([0-9a-f]*) ([0-9a-f]*)")
 QUERY = re.compile(rb"#query ([0-9]+) ([0-9]+)")
 
@@ -64,13 +64,13 @@ def counted_in(text):
 
 def min_in(text):
     """The minimum time of events that a text's `#least` lines have; 0 if there is none."""
-    found = [LEAST.fullmatch(line) for line in text.split(b"\n")[:-1]]
+    found = [MIN_LINE.fullmatch(line) for line in text.split(b"\n")[:-1]]
     return max((int(line[1]) for line in found if line), default=0)
 
 
-def is_taken(line, least):
+def is_taken(line, minimum):
     """Whether a hand-out is allowed if no event below this time is accepted."""
-    return line[0] != "e" or int(line.split()[1]) >= least
+    return line[0] != "e" or int(line.split()[1]) >= minimum
 
 
 def has_own_line(said, text):
@@ -88,8 +88,8 @@ class Missed:
     def note(self, text, before, wanted, again):
         """Adds an opening on a text after which everything was offered again. Returns what it missed, except what was in flight, and
         what a join had refused."""
-        least = min_in(text)
-        missed = {line for line in wanted - before - again if is_taken(line, least)}
+        minimum = min_in(text)
+        missed = {line for line in wanted - before - again if is_taken(line, minimum)}
         flight = noted_in(text) & missed
         self.openings += 1
         self.in_flight += len(flight)
@@ -108,13 +108,13 @@ class Missed:
         )
 
 
-def of_opening(seen, text, before, wanted, again, missed, least):
+def of_opening(seen, text, before, wanted, again, missed, minimum):
     """What an agent that keeps its events does wrong on a text that a cut left. least: the minimum time that joins had set."""
-    if min_in(text) < least:
-        seen.wrong(f"it was left {text!r}, and a join set the minimum time {least}")
-    old = [line for line in again if not is_taken(line, least)]
+    if min_in(text) < minimum:
+        seen.wrong(f"it was left {text!r}, and a join set the minimum time {minimum}")
+    old = [line for line in again if not is_taken(line, minimum)]
     if old:
-        seen.wrong(f"it was left {text!r}, and hands out {sorted(old)[:3]}; a join set the minimum time {least}")
+        seen.wrong(f"it was left {text!r}, and hands out {sorted(old)[:3]}; a join set the minimum time {minimum}")
     others = missed.note(text, before, wanted, again)
     if others:
         seen.wrong(f"it was left {text!r}, and misses {sorted(others)[:3]}")

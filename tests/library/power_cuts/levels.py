@@ -100,7 +100,7 @@ class Deliveries:
     """What was handed out so far: events and queries, and the largest time of each; and the minimum time that joins set."""
 
     def __init__(self):
-        self.all, self.events, self.queries, self.least = frozenset(), 0, 0, 0
+        self.all, self.events, self.queries, self.minimum = frozenset(), 0, 0, 0
 
     def note(self, line):
         words = line.split()
@@ -117,7 +117,7 @@ def is_sent_on(line):
     return isinstance(messages.decode(bytes.fromhex(line[2:])), (messages.UserEvent, messages.Query))
 
 
-def least_of(line):
+def min_of(line):
     """Which clock has to be in the file, and how high, before this is handed out or over."""
     kind, word = line.split()[:2]
     if kind == "p":
@@ -131,12 +131,12 @@ def least_of(line):
 def of_order(seen, disk, line, lengths, keeps_events):
     """Level c: at a hand-out each cut leaves the line that it needs, and everything else that was written. If events are kept,
     an event and a query have separate lines too."""
-    clock, least = least_of(line)
+    clock, minimum = min_of(line)
     live = text_now(disk)
     for _, left in disk.cuts(lengths):
         text = disk.text_of(left)
         seen.cuts += 1
-        if clocks_in(text)[clock] < least:
+        if clocks_in(text)[clock] < minimum:
             seen.wrong(f"{line[:40]} was handed out, and a cut leaves {text!r}")
         elif keeps_events and line[0] in "eh" and not kept.has_own_line(line, text):
             seen.wrong(f"{line[:40]} was handed out, and a cut leaves no line of it: {text!r}")
@@ -149,7 +149,7 @@ def of_agent(walk, lengths, keeps_events=False, min_after=()):
     """Levels b and c, without the openings: what was checked in each, and at each cut the text that is left and what
     was handed out before it, once each. min_after: for each answer the minimum time that joins have set by then."""
     whole, order, handed = Seen(), Seen(), Deliveries()
-    disk, promise, left, leasts = walk.disk, None, {}, iter(min_after)
+    disk, promise, left, minimums = walk.disk, None, {}, iter(min_after)
     for said in walk:
         line = "" if said is None else said.decode().rstrip("\n")
         if line[:2] in ("e ", "h ", "p "):
@@ -158,9 +158,9 @@ def of_agent(walk, lengths, keeps_events=False, min_after=()):
         elif line == "ok":
             promise = promise_of(disk)
         if line in ("ok", "Failed"):
-            handed.least = next(leasts, handed.least)
+            handed.minimum = next(minimums, handed.minimum)
         for text in check_cuts(whole, disk, promise, lengths):
-            left[text, handed.all] = (handed.events, handed.queries, handed.least)
+            left[text, handed.all] = (handed.events, handed.queries, handed.minimum)
     return whole, order, left
 
 

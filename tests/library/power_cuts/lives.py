@@ -160,11 +160,11 @@ class Openings:
         return found
 
 
-def some_of(left, drawn, most):
-    """So many of the texts that cuts left, with what was handed out before; all of them if `most` is None."""
-    if most is None:
+def some_of(left, drawn, maximum):
+    """So many of the texts that cuts left, with what was handed out before; all of them if `maximum` is None."""
+    if maximum is None:
         return left
-    return {it: left[it] for it in drawn.sample(list(left), min(most, len(left)))}
+    return {it: left[it] for it in drawn.sample(list(left), min(maximum, len(left)))}
 
 
 def open_again(seen, store, left, packets, room):

@@ -57,6 +57,6 @@ def choices(count):
     """Which of so many sectors are new."""
     if count <= ALL_CHOICES:
         return list(itertools.product((False, True), repeat=count))
-    begins = [[at < most for at in range(count)] for most in range(count + 1)]
+    begins = [[at < maximum for at in range(count)] for maximum in range(count + 1)]
     ends = [[not is_new for is_new in choice] for choice in begins]
     return [*begins, *ends, [at % 2 == 0 for at in range(count)], [at % 2 == 1 for at in range(count)]]

@@ -15,19 +15,22 @@ type openEvent struct {
 	hasBegun      bool
 }
 
-// tracking is what the host notes of the handlers of its events, and the lines about them (docs/HOST.md, "What was handed out and isn't done").
-// POWER_CUTS_FAULT names a bug of it, as handled.py lists them.
+// tracking keeps what the host knows about the handlers of its events, and writes the lines about them (docs/HOST.md,
+// "What was handed out and isn't done"). POWER_CUTS_FAULT names a bug to plant in it; handled.py lists the bugs.
 //
-// The agent appends the lines, since filler may follow the file's text. The host flushes them by a separate file.
+// The host appends the lines through the agent, since filler may follow the file's text. It flushes them through a
+// separate file descriptor.
 type tracking struct {
-	path  string
-	agent *serfagent.Agent
-	file  *os.File
-	open  []*openEvent
+	path       string
+	agent      *serfagent.Agent
+	file       *os.File
+	openEvents []*openEvent
 }
 
+// isFault reports whether the bug with this name is planted.
 func isFault(name string) bool { return os.Getenv("POWER_CUTS_FAULT") == name }
 
+// print prints an event after a word for what became of it.
 func (e *openEvent) print(word string) { fmt.Printf("%s %d %x\n", word, e.time, e.name) }
 
 // openTracked opens an agent that keeps its events, and whose handlers are tracked.
@@ -42,7 +45,7 @@ func openTracked(path string) (*serfagent.Agent, *tracking, error) {
 	return agent, t, t.restore()
 }
 
-// restore reads the open events of the file. The agent has just opened the file, so it is locked and flushed.
+// restore reads the open events from the file. The agent has just opened the file, so it is locked and flushed.
 func (t *tracking) restore() error {
 	text, err := os.ReadFile(t.path)
 	if err != nil {
@@ -54,17 +57,17 @@ func (t *tracking) restore() error {
 	}
 	for _, e := range found {
 		event := &openEvent{e.Time, e.Name, e.Payload, e.HasBegun}
-		t.open = append(t.open, event)
+		t.openEvents = append(t.openEvents, event)
 		event.print(map[bool]string{false: "w", true: "u"}[e.HasBegun])
 	}
 	if err := t.reopen(); err != nil || isTracked {
 		return err
 	}
-	return t.start()
+	return t.startTracking()
 }
 
-// start begins to say in the file what became of handlers.
-func (t *tracking) start() error {
+// startTracking writes the line from which on the file says what became of handlers.
+func (t *tracking) startTracking() error {
 	clocks, err := t.agent.Clocks()
 	if err != nil {
 		return err
@@ -79,7 +82,7 @@ func (t *tracking) start() error {
 	return t.flush()
 }
 
-// reopen opens the file that the agent has opened, or that it has just replaced.
+// reopen opens the file at the path, after the agent has opened or replaced it.
 func (t *tracking) reopen() (err error) {
 	t.close()
 	t.file, err = os.Open(t.path)
@@ -94,13 +97,15 @@ func (t *tracking) close() {
 
 func (t *tracking) flush() error { return syscall.Fdatasync(int(t.file.Fd())) }
 
+// handOut adds an event that was handed out to the open ones.
 func (t *tracking) handOut(event *serfagent.Event) {
-	t.open = append(t.open, &openEvent{event.Time, event.Name, event.Payload, false})
+	t.openEvents = append(t.openEvents, &openEvent{event.Time, event.Name, event.Payload, false})
 }
 
-// first returns the place of the first open event whose handler has begun, or has not; -1 if there is none.
-func (t *tracking) first(hasBegun bool) int {
-	for i, event := range t.open {
+// firstOpen returns the index of the first open event whose handler has begun (or has not begun, if hasBegun is false), or
+// -1 if there is none.
+func (t *tracking) firstOpen(hasBegun bool) int {
+	for i, event := range t.openEvents {
 		if event.hasBegun == hasBegun {
 			return i
 		}
@@ -108,13 +113,13 @@ func (t *tracking) first(hasBegun bool) int {
 	return -1
 }
 
-// begin begins the handler of the first event that waits, after the flush of its line.
+// begin begins the handler of the first event that waits, after it has flushed the event's line.
 func (t *tracking) begin() error {
-	i := t.first(false)
+	i := t.firstOpen(false)
 	if i < 0 {
 		return nil
 	}
-	event := t.open[i]
+	event := t.openEvents[i]
 	line, err := serfagent.BegunLine(event.time, event.name, event.payload)
 	if err == nil && isFault("done_first") {
 		var done []byte
@@ -135,15 +140,15 @@ func (t *tracking) begin() error {
 	return nil
 }
 
-// end ends the handler that began first.
+// end ends the handler of the first event that has begun.
 func (t *tracking) end() error {
-	i := t.first(true)
+	i := t.firstOpen(true)
 	if i < 0 {
 		return nil
 	}
-	event := t.open[i]
+	event := t.openEvents[i]
 	event.print("d")
-	t.open = append(t.open[:i], t.open[i+1:]...)
+	t.openEvents = append(t.openEvents[:i], t.openEvents[i+1:]...)
 	if isFault("done_first") || isFault("done_missing") {
 		return nil
 	}
@@ -154,7 +159,8 @@ func (t *tracking) end() error {
 	return err
 }
 
-// openLines are the lines that follow the agent's in a text that replaces the file's.
+// openLines returns the host's lines for a compaction. They follow the agent's lines in the text that replaces the
+// file's.
 func (t *tracking) openLines(agent *serfagent.Agent) ([]byte, error) {
 	clocks, err := agent.Clocks()
 	if err != nil {
@@ -166,12 +172,12 @@ func (t *tracking) openLines(agent *serfagent.Agent) ([]byte, error) {
 			err = lineErr
 		}
 	}
-	for i, event := range t.open {
+	for i, event := range t.openEvents {
 		if isFault("compaction_drops") {
 			break
 		}
 		if isFault("compaction_reverses") {
-			event = t.open[len(t.open)-1-i]
+			event = t.openEvents[len(t.openEvents)-1-i]
 		}
 		appendLine(serfagent.OpenLine(event.time, event.name, event.payload))
 		if event.hasBegun && !isFault("compaction_forgets_begun") {
@@ -181,6 +187,7 @@ func (t *tracking) openLines(agent *serfagent.Agent) ([]byte, error) {
 	return text, err
 }
 
+// compact compacts the file, and keeps the lines of the open events.
 func (t *tracking) compact(agent *serfagent.Agent) error {
 	lines, err := t.openLines(agent)
 	if err != nil {

@@ -28,7 +28,7 @@ OTHER = {
     "serf/join.go": [
         (
             "\tpacket, err := intent.Packet()\n",
-            "\tplanted.Sent(s.config.NodeName, string(intent.Node), intent.Time, intent.Leave)\n\tpacket, err := intent.Packet()\n",
+            "\tplanted.RecordIntent(s.config.NodeName, string(intent.Node), intent.Time, intent.Leave)\n\tpacket, err := intent.Packet()\n",
         )
     ],
     "serfagent/filler.go": [("const fillerBytes = 64 << 10", "const fillerBytes = 1 << 10")],
@@ -64,7 +64,7 @@ def importing_planted(folder):
                     file.write(re.sub(r"^(package \w+)$", rf'\1\n\nimport "{PLANTED}"', text, count=1, flags=re.M))
 
 
-def copied(folder, library):
+def copy_sources(folder, library):
     """Copies the packages into a folder of Go's, and edits them. Returns that folder."""
     source = os.path.join(folder, "go", "src", "kitchenrue.example")
     for name in ("serf", "serfagent", "guard"):
@@ -87,8 +87,8 @@ def build(folder, library):
     overlay = runtime_edits.write_overlay(overlay_folder)
     program = os.path.join(folder, "cluster")
     words = ["go", "build", "-overlay", overlay, "-tags", "faketime", "-o", program, "kitchenrue.example/simulation/cluster"]
-    ran = subprocess.run(
-        words, env=c_library.go_env(copied(folder, library), GOCODE), stdin=subprocess.DEVNULL, stdout=subprocess.PIPE,
+    result = subprocess.run(
+        words, env=c_library.go_env(copy_sources(folder, library), GOCODE), stdin=subprocess.DEVNULL, stdout=subprocess.PIPE,
         stderr=subprocess.STDOUT, text=True, errors="replace",
     )
-    return program, ran.stdout[-3000:] or "go build failed" if ran.returncode else None
+    return program, result.stdout[-3000:] or "go build failed" if result.returncode else None

@@ -13,7 +13,7 @@ Fault = namedtuple("Fault", "what edits length", defaults=("4m",))
 
 def unless(name, call):
     """A statement of Go's that isn't reached if the wrong body is on. It returns an error, as the call does."""
-    return f'func() error {{\n\t\tif planted.Is("{name}") {{\n\t\t\treturn nil\n\t\t}}\n\t\treturn {call}\n\t}}()'
+    return f'func() error {{\n\t\tif planted.IsOn("{name}") {{\n\t\t\treturn nil\n\t\t}}\n\t\treturn {call}\n\t}}()'
 
 
 FAULTS = {
@@ -25,7 +25,7 @@ FAULTS = {
                 (
                     "// Replace replaces the file's content durably.\n",
                     "func (s *Store) flushLine() error {\n"
-                    '\tif err := flushData(s.file); err != nil && !planted.Is("flush-ok") {\n'
+                    '\tif err := flushData(s.file); err != nil && !planted.IsOn("flush-ok") {\n'
                     "\t\treturn err\n\t}\n\treturn nil\n}\n\n// Replace replaces the file's content durably.\n",
                 ),
             ]
@@ -37,9 +37,9 @@ FAULTS = {
         {
             "serfagent/filler.go": [
                 (
-                    "func (s *Store) writeAlone(data []byte) error {\n\tif _, err := s.file.WriteAt(data, s.end); err != nil {",
-                    "func (s *Store) writeAlone(data []byte) error {\n"
-                    '\tif _, err := s.file.WriteAt(data, s.end); err != nil && !planted.Is("write-ok") {',
+                    "func (s *Store) writeWithoutFiller(data []byte) error {\n\tif _, err := s.file.WriteAt(data, s.end); err != nil {",
+                    "func (s *Store) writeWithoutFiller(data []byte) error {\n"
+                    '\tif _, err := s.file.WriteAt(data, s.end); err != nil && !planted.IsOn("write-ok") {',
                 )
             ]
         },
@@ -50,7 +50,7 @@ FAULTS = {
             "serfagent/agent.go": [
                 (
                     "\t\terr = a.store.Append(data)\n",
-                    '\t\tif planted.Is("late") {\n\t\t\tgo a.store.Append(append([]byte(nil), data...))\n\t\t} else {\n'
+                    '\t\tif planted.IsOn("late") {\n\t\t\tgo a.store.Append(append([]byte(nil), data...))\n\t\t} else {\n'
                     "\t\t\terr = a.store.Append(data)\n\t\t}\n",
                 )
             ]
@@ -65,17 +65,17 @@ FAULTS = {
         {
             "serfagent/agent.go": [
                 (
-                    "\treturn open(name, store, text, settings)\n",
-                    '\tif planted.Is("not-restored") {\n\t\ttext = nil\n\t}\n\treturn open(name, store, plantedText(text), settings)\n',
+                    "\tagent, err := open(name, store, text, settings)\n",
+                    '\tif planted.IsOn("not-restored") {\n\t\ttext = nil\n\t}\n\tagent, err := open(name, store, plantedText(text), settings)\n',
                 ),
                 (
                     "// memoryStore keeps nothing.\n",
                     "func plantedText(text []byte) []byte {\n"
-                    '\tswitch {\n\tcase planted.Is("no-queries"):\n'
+                    '\tswitch {\n\tcase planted.IsOn("no-queries"):\n'
                     '\t\treturn bytes.ReplaceAll(text, []byte("query-clock: "), []byte("#uery-clock: "))\n'
-                    '\tcase planted.Is("no-kept"):\n'
+                    '\tcase planted.IsOn("no-kept"):\n'
                     '\t\treturn bytes.ReplaceAll(text, []byte("#event "), []byte("#vent "))\n'
-                    '\tcase planted.Is("last-line"):\n'
+                    '\tcase planted.IsOn("last-line"):\n'
                     '\t\treturn text[:bytes.LastIndexByte(bytes.TrimSuffix(text, []byte("\\n")), \'\\n\')+1]\n'
                     "\t}\n\treturn text\n}\n\n// memoryStore keeps nothing.\n",
                 ),
@@ -92,14 +92,14 @@ FAULTS = {
             "serf/serf.go": [
                 (
                     "\tif isClosed(err) && !s.isEnded {\n\t\ts.isEnded = true\n",
-                    '\tif isClosed(err) && !s.isEnded && !planted.Is("disk-ignored") {\n\t\ts.isEnded = true\n',
+                    '\tif isClosed(err) && !s.isEnded && !planted.IsOn("disk-ignored") {\n\t\ts.isEnded = true\n',
                 )
             ]
         },
     ),
     "fired-ok": Fault(
         "A firing whose burst failed is reported as fired.",
-        {"serf/receive.go": [("\t\tfiring.err = err\n", '\t\tif firing.err = err; planted.Is("fired-ok") {\n\t\t\tfiring.err = nil\n\t\t}\n')]},
+        {"serf/receive.go": [("\t\tfiring.err = err\n", '\t\tif firing.err = err; planted.IsOn("fired-ok") {\n\t\t\tfiring.err = nil\n\t\t}\n')]},
     ),
     "twice": Fault(
         "A received event is handed out twice.",
@@ -107,7 +107,7 @@ FAULTS = {
             "serf/receive.go": [
                 (
                     "\t\t\ts.stage(received.Event)\n",
-                    '\t\t\ts.stage(received.Event)\n\t\t\tif planted.Is("twice") {\n\t\t\t\ts.stage(received.Event)\n\t\t\t}\n',
+                    '\t\t\ts.stage(received.Event)\n\t\t\tif planted.IsOn("twice") {\n\t\t\t\ts.stage(received.Event)\n\t\t\t}\n',
                 )
             ]
         },
@@ -118,20 +118,20 @@ FAULTS = {
             "serf/delegate.go": [
                 (
                     "\tif len(state) > 0 && !d.states.add(",
-                    '\tif planted.Is("no-merge") {\n\t\treturn\n\t}\n\tif len(state) > 0 && !d.states.add(',
+                    '\tif planted.IsOn("no-merge") {\n\t\treturn\n\t}\n\tif len(state) > 0 && !d.states.add(',
                 ),
-                ("isJoin && d.ignoringJoins.Load() > 0) {", 'isJoin && d.ignoringJoins.Load() > 0 || planted.Is("all-old")) {'),
+                ("isJoin && d.ignoringJoins.Load() > 0) {", 'isJoin && d.ignoringJoins.Load() > 0 || planted.IsOn("all-old")) {'),
             ]
         },
     ),
     "all-old": Fault("Each exchange of states ignores old events.", {}),
     "not-sent": Fault(
         "A fired event isn't gossiped.",
-        {"serf/receive.go": [("\ts.events.add(sent...)\n", '\tif !planted.Is("not-sent") {\n\t\ts.events.add(sent...)\n\t}\n')]},
+        {"serf/receive.go": [("\ts.events.add(broadcasts...)\n", '\tif !planted.IsOn("not-sent") {\n\t\ts.events.add(broadcasts...)\n\t}\n')]},
     ),
     "storm": Fault(
         "Each received packet is gossiped again, also one that isn't new.",
-        {"serf/receive.go": [("\tif received.Rebroadcast {\n", '\tif received.Rebroadcast || planted.Is("storm") {\n')]},
+        {"serf/receive.go": [("\tif received.Rebroadcast {\n", '\tif received.Rebroadcast || planted.IsOn("storm") {\n')]},
         "30s",
     ),
     "relay-all": Fault(
@@ -140,7 +140,7 @@ FAULTS = {
             "serf/answer.go": [
                 (
                     "\tif factor == 0 || s.members.size()",
-                    '\tif planted.Is("relay-all") {\n\t\treturn s.members.pickOthers(s.members.size(), source)\n\t}\n'
+                    '\tif planted.IsOn("relay-all") {\n\t\treturn s.members.pickOthers(s.members.size(), source)\n\t}\n'
                     "\tif factor == 0 || s.members.size()",
                 )
             ]
@@ -153,12 +153,12 @@ FAULTS = {
                 (
                     "\tif response := s.openQueries[queryKey{answer.Time, answer.ID}]; response != nil",
                     "\topen := s.openQueries[queryKey{answer.Time, answer.ID}]\n"
-                    '\tfor _, other := range s.openQueries {\n\t\tif planted.Is("any-query") {\n\t\t\topen = other\n\t\t}\n\t}\n'
+                    '\tfor _, other := range s.openQueries {\n\t\tif planted.IsOn("any-query") {\n\t\t\topen = other\n\t\t}\n\t}\n'
                     "\tif response := open; response != nil",
                 ),
                 (
                     "func (s *Serf) closeDue() error {\n",
-                    'func (s *Serf) closeDue() error {\n\tif planted.Is("never-closed") {\n\t\treturn nil\n\t}\n',
+                    'func (s *Serf) closeDue() error {\n\tif planted.IsOn("never-closed") {\n\t\treturn nil\n\t}\n',
                 ),
             ]
         },
@@ -171,7 +171,7 @@ FAULTS = {
                 (
                     "func (c *coalescer) withUserEvent(events []Event, e UserEvent) []Event {\n",
                     "func (c *coalescer) withUserEvent(events []Event, e UserEvent) []Event {\n"
-                    '\tif planted.Is("coalesced") {\n\t\treturn []Event{e}\n\t}\n',
+                    '\tif planted.IsOn("coalesced") {\n\t\treturn []Event{e}\n\t}\n',
                 )
             ]
         },
@@ -182,14 +182,14 @@ FAULTS = {
             "serf/pipe.go": [
                 (
                     "\t\t} else {\n\t\t\tp.waiting = append(p.waiting, e)\n\t\t}\n",
-                    '\t\t} else if p.size() < Waiting/4 || !planted.Is("pipe-drops") {\n\t\t\tp.waiting = append(p.waiting, e)\n\t\t}\n',
+                    '\t\t} else if p.size() < Waiting/4 || !planted.IsOn("pipe-drops") {\n\t\t\tp.waiting = append(p.waiting, e)\n\t\t}\n',
                 )
             ]
         },
     ),
     "no-refute": Fault(
-        "A node doesn't refute that it left.",
-        {"serf/join.go": [("\tif s.State() == SerfAlive {\n\t\tsignal(", '\tif s.State() == SerfAlive && !planted.Is("no-refute") {\n\t\tsignal(')]},
+        "A node doesn't refute a message that says that it left.",
+        {"serf/join.go": [("\tif s.State() == SerfAlive {\n\t\tsignal(", '\tif s.State() == SerfAlive && !planted.IsOn("no-refute") {\n\t\tsignal(')]},
     ),
     "goroutine": Fault(
         "A goroutine doesn't end with the node.",
@@ -199,7 +199,7 @@ FAULTS = {
                     "\tticker := time.NewTicker(s.config.ReconnectInterval)\n\tdefer ticker.Stop()\n\tfor {\n\t\tselect {\n"
                     "\t\tcase <-s.ctx.Done():\n\t\t\treturn\n",
                     "\tticker := time.NewTicker(s.config.ReconnectInterval)\n\tdefer ticker.Stop()\n\tfor {\n\t\tselect {\n"
-                    '\t\tcase <-s.ctx.Done():\n\t\t\tif planted.Is("goroutine") {\n\t\t\t\t<-ticker.C\n\t\t\t\tcontinue\n\t\t\t}\n'
+                    '\t\tcase <-s.ctx.Done():\n\t\t\tif planted.IsOn("goroutine") {\n\t\t\t\t<-ticker.C\n\t\t\t\tcontinue\n\t\t\t}\n'
                     "\t\t\treturn\n",
                 )
             ]
@@ -207,7 +207,7 @@ FAULTS = {
     ),
     "descriptor": Fault(
         "A compaction leaves the old file open.",
-        {"serf/snapshot.go": [("\tif f.file != nil {\n\t\tf.file.Close()\n", '\tif f.file != nil && !planted.Is("descriptor") {\n\t\tf.file.Close()\n')]},
+        {"serf/snapshot.go": [("\tif f.file != nil {\n\t\tf.file.Close()\n", '\tif f.file != nil && !planted.IsOn("descriptor") {\n\t\tf.file.Close()\n')]},
     ),
     "unguarded": Fault(
         "The guard passes each packet.",
@@ -215,8 +215,8 @@ FAULTS = {
             "guard/around.go": [
                 (
                     "if allowed := ins.inspect(packet.Buf); allowed != nil {",
-                    'if allowed := ins.inspect(packet.Buf); allowed != nil || planted.Is("unguarded") {\n'
-                    '\t\t\t\tif planted.Is("unguarded") {\n\t\t\t\t\tallowed = packet.Buf\n\t\t\t\t}',
+                    'if allowed := ins.inspect(packet.Buf); allowed != nil || planted.IsOn("unguarded") {\n'
+                    '\t\t\t\tif planted.IsOn("unguarded") {\n\t\t\t\t\tallowed = packet.Buf\n\t\t\t\t}',
                 )
             ]
         },

@@ -7,80 +7,11 @@ differ only in them, are defined in crates/serf_snapshot/specs/OtherLines.antt.
 """
 
 import os
-import re
+import sys
 from collections import namedtuple
 
-# The kinds of clocks, by the prefixes of their lines (Clocks.antt, `prefix_of`).
-CLOCKS = (b"clock: ", b"event-clock: ", b"query-clock: ")
-
-# Above all times (Clock.antt, `max_clock`).
-MAX_CLOCK = 2**64 - 1
-
-
-def following(prefix, line):
-    """The bytes after a prefix, or None (`following`)."""
-    return line[len(prefix) :] if line.startswith(prefix) else None
-
-
-def number(digits):
-    """The number that decimal digits write, or None."""
-    return int(digits) if digits is not None and re.fullmatch(rb"[0-9]+", digits) else None
-
-
-def time_of(digits):
-    """A time, or 0 (`time_text_value`)."""
-    value = number(digits)
-    return value if value is not None and value < MAX_CLOCK else 0
-
-
-def minimum_of(prefix, line):
-    """The minimum that a line sets for the clock with this prefix, or 0 (EventLines.antt, `min_of_line`)."""
-    minimum, digits = number(following(b"#least " + prefix, line)), following(prefix, line)
-    value = number(digits)
-    unkept = value + 1 if value is not None and value < MAX_CLOCK and not digits.startswith(b"0") else 0
-    return max(minimum or 0, unkept)
-
-
-def is_event(line):
-    """Whether a line is the line of an event (`event_of_line`): three parts between single spaces, a time and two in hex."""
-    parts = (following(b"#event ", line) or b"").split(b" ")
-    return len(parts) == 3 and time_of(parts[0]) > 0 and all(re.fullmatch(rb"(?:[0-9A-Fa-f]{2})*", part) for part in parts[1:])
-
-
-def is_query(line):
-    """Whether a line is the line of a query (`query_of_line`): two parts, a time and an ID below 2^32."""
-    parts = (following(b"#query ", line) or b"").split(b" ")
-    return len(parts) == 2 and time_of(parts[0]) > 0 and number(parts[1]) is not None and int(parts[1]) < 2**32
-
-
-def is_other(line):
-    """Whether a line says nothing of clocks, minimums, events and queries (OtherLines.antt, `is_other_line`)."""
-    says_time = any(time_of(following(prefix, line)) > 0 or minimum_of(prefix, line) > 0 for prefix in CLOCKS)
-    return not says_time and not is_event(line) and not is_query(line)
-
-
-def own_lines(text):
-    """The lines of a text that aren't other lines, and the bytes after its last newline (`own_lines`, `torn_part`)."""
-    *lines, torn = text.split(b"\n")
-    return [line for line in lines if not is_other(line)], torn
-
-
-def begins_with(text, confirmed):
-    """Why a text doesn't begin with these bytes up to other lines, or None (`BeginsWith`: the text is a front and a tail, and the front and
-    the bytes differ only in other lines)."""
-    own, torn = own_lines(confirmed)
-    found, at = 0, 0
-    while found < len(own) or not text.startswith(torn, at):
-        # (the front ends at the end of a line, or after the torn bytes)
-        end = text.find(b"\n", at)
-        line = text[at:end] if end >= 0 else None
-        if line is None or not is_other(line) and (found == len(own) or line != own[found]):
-            wanted = own[found] if found < len(own) else torn
-            return f"line {found + 1} of {len(own)} should be {wanted[:100]!r}, and there is {text[at:][:100]!r}"
-        found += not is_other(line)
-        at = end + 1
-    return None
-
+sys.path.insert(0, os.path.join(os.path.dirname(os.path.abspath(__file__)), *[os.pardir] * 3, "examples", "records"))
+from snapshot_texts import begins_with, own_lines
 
 # A record of recorder.c, or a note of a test: its kind, the process and the number of the life, the moment, and its bytes.
 Record = namedtuple("Record", "kind life moment data")
@@ -147,13 +78,13 @@ class File:
 class Held:
     """The records of a folder, held against the premise: how many sessions and files there are, how many openings were checked, how many of
     these after a session that confirmed something, on a text with other lines between the confirmed bytes, on a text with a tail that says
-    something, and after a session that ended during a compaction; and the openings that break the premise, each as the file's path and
-    why."""
+    something, and after a session that ended during a compaction; the texts on which sessions opened, each of them once; and the openings
+    that break the premise, each as the file's path and why."""
 
     def __init__(self, folder):
         self.files, self.places = {}, {}
         self.lives = self.checked = self.telling = self.with_others = self.with_tail = self.replaced = self.under_way = 0
-        self.faults = []
+        self.faults, self.texts = [], set()
         for record in all_records(folder):
             self.take(record)
 
@@ -175,6 +106,7 @@ class Held:
 
     def opened(self, life, path, text):
         self.lives += 1
+        self.texts.add(text)
         before = self.files.get(path)
         if before is not None:
             self.checked += 1

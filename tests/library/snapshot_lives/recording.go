@@ -15,7 +15,7 @@ import (
 
 // tests/library/snapshot_lives.py adds this file to a copy of the package.
 
-// recordPath names an agent's file to the recorder.
+// recordPath reports the path of an agent's file to the recorder.
 func recordPath(a *Agent, store textStore) {
 	if file, ok := store.(*Store); ok {
 		path := []byte(file.path)
@@ -23,21 +23,21 @@ func recordPath(a *Agent, store textStore) {
 	}
 }
 
-// What follows is for the wrong hosts of wrong/hosts.edits.
+// The rest of this file is for the wrong hosts of wrong/hosts.edits.
 
-// firstTexts are the texts on which agents were first opened at each path.
+// firstTexts has, for each path, the text on which an agent was first opened there.
 var firstTexts sync.Map
 
-// olderCopy returns the text on which an agent was first opened at a path.
+// olderCopy returns the text on which an agent was first opened at this path.
 func olderCopy(path string, text []byte) []byte {
 	first, _ := firstTexts.LoadOrStore(path, text)
 	return first.([]byte)
 }
 
-// bytesBeforeEnd returns lines without the newline at their end.
+// bytesBeforeEnd returns lines without the last newline.
 func bytesBeforeEnd(lines []byte) []byte { return bytes.TrimSuffix(lines, []byte("\n")) }
 
-// withoutLine returns a text without its last line that contains a word.
+// withoutLine returns a text without the last line that contains this word.
 func withoutLine(text []byte, word string) []byte {
 	lines := bytes.SplitAfter(text, []byte("\n"))
 	for i := len(lines) - 1; i >= 0; i-- {

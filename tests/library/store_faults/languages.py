@@ -13,8 +13,8 @@ static bool is(const char *fault) {
 }
 """),
         (
-            "static enum serf_agent_store_error fault_of(int error) {\n",
-            "static enum serf_agent_store_error fault_of(int error) {\n"
+            "static enum serf_agent_store_error store_error_of(int error) {\n",
+            "static enum serf_agent_store_error store_error_of(int error) {\n"
             '    if (error == EDQUOT && is("quota")) {\n        return SERF_AGENT_STORE_FAILED;\n    }\n',
         ),
         ("    if (store->file >= 0) {\n", '    if (store->file >= 0 && !is("opening_leaks")) {\n'),
@@ -28,21 +28,21 @@ static bool is(const char *fault) {
             '    if (!is("old_file_open")) {\n        close(store->file);\n    }\n    store->file = file;\n',
         ),
         ("realpath(path, NULL)", 'is("link") || is("link_replaced") ? strdup(path) : realpath(path, NULL)'),
-        ("&named, AT_SYMLINK_NOFOLLOW)", '&named, is("link_replaced") ? 0 : AT_SYMLINK_NOFOLLOW)'),
+        ("&at_path, AT_SYMLINK_NOFOLLOW)", '&at_path, is("link_replaced") ? 0 : AT_SYMLINK_NOFOLLOW)'),
         (
-            "own.st_dev == named.st_dev && own.st_ino == named.st_ino",
-            '(is("stale") || (own.st_dev == named.st_dev && (is("stale_device") || own.st_ino == named.st_ino)))',
+            "opened.st_dev == at_path.st_dev && opened.st_ino == at_path.st_ino",
+            '(is("stale") || (opened.st_dev == at_path.st_dev && (is("stale_device") || opened.st_ino == at_path.st_ino)))',
         ),
         (
-            "if (!S_ISREG(about.st_mode)) {",
-            'if (!S_ISREG(about.st_mode) && !(is("device") && S_ISCHR(about.st_mode)) &&'
-            ' !(is("pipe") && S_ISFIFO(about.st_mode))) {',
+            "if (!S_ISREG(info.st_mode)) {",
+            'if (!S_ISREG(info.st_mode) && !(is("device") && S_ISCHR(info.st_mode)) &&'
+            ' !(is("pipe") && S_ISFIFO(info.st_mode))) {',
         ),
         (
-            "/* Closes and frees everything that the store has. */",
-            "static bool remove_beside(const struct serf_agent_store *store) {\n    char beside[NAME_MAX + 1];\n"
-            "    return name_beside(store, beside) && (unlinkat(store->folder, beside, 0) == 0 || errno == ENOENT);\n}\n\n"
-            "/* Closes and frees everything that the store has. */",
+            "/* Closes the store's descriptors and frees its memory. */",
+            "static bool remove_beside(const struct serf_agent_store *store) {\n    char new_name[NAME_MAX + 1];\n"
+            "    return set_new_name(store, new_name) && (unlinkat(store->folder, new_name, 0) == 0 || errno == ENOENT);\n}\n\n"
+            "/* Closes the store's descriptors and frees its memory. */",
         ),
         (
             "open_folder(store, path) && open_file(store)",
@@ -56,21 +56,21 @@ static bool is(const char *fault) {
             "        } else {\n            close(file);\n        }\n        unlinkat(",
         ),
         ("| O_NOFOLLOW |", '| (is("link_replaced") ? 0 : O_NOFOLLOW) |'),
-        ("store->name, how, 0600)", 'store->name, how, is("made_for_all") ? 0644 : 0600)'),
+        ("store->name, flags, 0600)", 'store->name, flags, is("made_for_all") ? 0644 : 0600)'),
         ("flock(store->file, LOCK_EX | LOCK_NB) != 0", '(!is("lock") && flock(store->file, LOCK_EX | LOCK_NB) != 0)'),
         (
-            "if (unlinkat(store->folder, beside, 0) != 0 && errno != ENOENT) {",
-            'if (!is("left") && unlinkat(store->folder, beside, 0) != 0 && errno != ENOENT && !is("left_ok")) {',
+            "if (unlinkat(store->folder, new_name, 0) != 0 && errno != ENOENT) {",
+            'if (!is("left") && unlinkat(store->folder, new_name, 0) != 0 && errno != ENOENT && !is("left_ok")) {',
         ),
         (
             "return fsync(store->file) == 0 && fsync(store->folder) == 0;",
             'return (fsync(store->file) == 0 || is("opened_text_ok")) &&'
             ' (fsync(store->folder) == 0 || is("opened_name_ok"));',
         ),
-        ("size = (size_t)about.st_size,", 'size = is("read_nothing") ? 0 : is("long_read_cut") && about.st_size > 65536 ? 65536 : (size_t)about.st_size,'),
+        ("size = (size_t)info.st_size,", 'size = is("read_nothing") ? 0 : is("long_read_cut") && info.st_size > 65536 ? 65536 : (size_t)info.st_size,'),
         (
             "if (count <= 0) {\n            free(bytes);",
-            'if (count <= 0) {\n            if (is("read_ok")) {\n                size = at;\n'
+            'if (count <= 0) {\n            if (is("read_ok")) {\n                size = read_len;\n'
             "                break;\n            }\n            free(bytes);",
         ),
         (
@@ -79,16 +79,16 @@ static bool is(const char *fault) {
             ' && !is("write_ok")) || (fdatasync(store->file) != 0 && !is("line_ok"))',
         ),
         (
-            "if (flock(file, LOCK_EX | LOCK_NB) == 0 && fchmod(file, about.st_mode & 0777) == 0"
+            "if (flock(file, LOCK_EX | LOCK_NB) == 0 && fchmod(file, info.st_mode & 0777) == 0"
             " && write_all(file, bytes, len) &&\n        fsync(file) == 0) {",
             'if ((is("lock_beside") || flock(file, LOCK_EX | LOCK_NB) == 0) &&'
-            ' fchmod(file, is("rights") ? 0600 : about.st_mode & 0777) == 0 &&'
+            ' fchmod(file, is("rights") ? 0600 : info.st_mode & 0777) == 0 &&'
             ' ((is("beside_in_part") ? write(file, bytes, len) > 0 : write_all(file, bytes, len)) || is("beside_ok")) &&'
             ' (fsync(file) == 0 || is("beside_sync_ok"))) {',
         ),
         (
-            "if (renameat(store->folder, beside, store->folder, store->name) != 0) {",
-            'if (!is("no_rename") && renameat(store->folder, beside, store->folder, store->name) != 0 && !is("rename_ok")) {',
+            "if (renameat(store->folder, new_name, store->folder, store->name) != 0) {",
+            'if (!is("no_rename") && renameat(store->folder, new_name, store->folder, store->name) != 0 && !is("rename_ok")) {',
         ),
         ("if (fsync(store->folder) != 0) {", 'if (fsync(store->folder) != 0 && !is("folder_ok")) {'),
         ("store->is_broken = true;", 'store->is_broken = !is("goes_on");'),
@@ -135,23 +135,23 @@ class Store:
         ),
         ("os.O_CREAT | os.O_EXCL", 'os.O_CREAT | (0 if FAULT == "beside_kept" else os.O_EXCL)'),
         (
-            "                os.close(file)\n                os.unlink(beside",
+            "                os.close(file)\n                os.unlink(new_name",
             '                if FAULT == "rename_takes_beside":\n                    os.dup2(file, self._file)\n'
-            "                os.close(file)\n                os.unlink(beside",
+            "                os.close(file)\n                os.unlink(new_name",
         ),
         ("os.O_NOFOLLOW |", '(0 if FAULT == "link_replaced" else os.O_NOFOLLOW) |'),
-        ("how, 0o600, dir_fd", 'how, 0o644 if FAULT == "made_for_all" else 0o600, dir_fd'),
+        ("flags, 0o600, dir_fd", 'flags, 0o644 if FAULT == "made_for_all" else 0o600, dir_fd'),
         (
-            "if not stat.S_ISREG(own.st_mode):",
-            'if not stat.S_ISREG(own.st_mode) and not (FAULT == "device" and stat.S_ISCHR(own.st_mode))'
-            ' and not (FAULT == "pipe" and stat.S_ISFIFO(own.st_mode)):',
+            "if not stat.S_ISREG(opened.st_mode):",
+            'if not stat.S_ISREG(opened.st_mode) and not (FAULT == "device" and stat.S_ISCHR(opened.st_mode))'
+            ' and not (FAULT == "pipe" and stat.S_ISFIFO(opened.st_mode)):',
         ),
         ("fcntl.flock(self._file,", 'FAULT == "lock" or fcntl.flock(self._file,'),
         (
-            "if os.path.samestat(own, os.stat(self._name, dir_fd=self._folder, follow_symlinks=False)):",
+            "if os.path.samestat(opened, os.stat(self._name, dir_fd=self._folder, follow_symlinks=False)):",
             'now = os.stat(self._name, dir_fd=self._folder, follow_symlinks=FAULT == "link_replaced")\n'
-            '                if FAULT == "stale" or (FAULT == "stale_device" and own.st_dev == now.st_dev)'
-            " or os.path.samestat(own, now):",
+            '                if FAULT == "stale" or (FAULT == "stale_device" and opened.st_dev == now.st_dev)'
+            " or os.path.samestat(opened, now):",
         ),
         (
             'os.unlink(self._name + ".new", dir_fd=self._folder)\n        os.fsync(self._file)\n        os.fsync(self._folder)',
@@ -159,8 +159,8 @@ class Store:
             '        but("opened_text_ok", os.fsync, self._file)\n        but("opened_name_ok", os.fsync, self._folder)',
         ),
         (
-            "while part := os.pread(self._file, 1 << 20, at):",
-            'while part := FAULT != "read_nothing" and but("read_ok", os.pread, self._file, 1 << 20, at):',
+            "while part := os.pread(self._file, 1 << 20, offset):",
+            'while part := FAULT != "read_nothing" and but("read_ok", os.pread, self._file, 1 << 20, offset):',
         ),
         (
             "        if self._file == CLOSED or self._is_broken:\n",
@@ -169,13 +169,13 @@ class Store:
             '            if self._file != CLOSED and FAULT == "writes_broken":\n                yield\n',
         ),
         (
-            "                at += len(part)\n",
-            '                at += len(part)\n                if FAULT == "long_read_cut":\n                    break\n',
+            "                offset += len(part)\n",
+            '                offset += len(part)\n                if FAULT == "long_read_cut":\n                    break\n',
         ),
         (
-            "raise FAULTS.get(error.errno or 0, StoreError)(",
+            "raise ERRORS_BY_NUMBER.get(error.errno or 0, StoreError)(",
             'is_quota = FAULT == "quota" and error.errno == errno.EDQUOT\n'
-            "        raise (StoreError if is_quota else FAULTS.get(error.errno or 0, StoreError))(",
+            "        raise (StoreError if is_quota else ERRORS_BY_NUMBER.get(error.errno or 0, StoreError))(",
         ),
         (
             "            except BaseException:\n                self.close()\n",
@@ -291,8 +291,8 @@ func syncFolder("""),
         ),
         ('err = os.Remove(resolved + ".new")', 'err = unless("left", func() error { return os.Remove(resolved + ".new") })'),
         (
-            "if err == nil || errors.Is(err, os.ErrNotExist) {\n\t\terr = store.findText()",
-            'if err == nil || errors.Is(err, os.ErrNotExist) || is("left_ok") {\n\t\terr = but("end_ok", store.findText())',
+            "if err == nil || errors.Is(err, os.ErrNotExist) {\n\t\terr = store.findTextEnd()",
+            'if err == nil || errors.Is(err, os.ErrNotExist) || is("left_ok") {\n\t\terr = but("end_ok", store.findTextEnd())',
         ),
         ("\t\terr = file.Sync()\n", '\t\terr = but("opened_text_ok", file.Sync())\n'),
         ("err = syncFolder(resolved)", 'err = but("opened_name_ok", syncFolder(resolved))'),
@@ -328,8 +328,8 @@ func syncFolder("""),
     ],
     "serfagent/filler.go": [
         (
-            "func (s *Store) writeAlone(data []byte) error {\n\tif _, err := s.file.WriteAt(data, s.end); err != nil {",
-            "func (s *Store) writeAlone(data []byte) error {\n"
+            "func (s *Store) writeWithoutFiller(data []byte) error {\n\tif _, err := s.file.WriteAt(data, s.end); err != nil {",
+            "func (s *Store) writeWithoutFiller(data []byte) error {\n"
             '\tif err := put(s.file, data, s.end, "write_in_part", "write_ok"); err != nil {',
         ),
         (
@@ -342,7 +342,7 @@ func syncFolder("""),
         ),
         (
             "\t\tif _, err := s.file.WriteAt(data, s.end); err != nil {\n\t\t\treturn err\n\t\t}\n\t\ts.end += length\n",
-            '\t\tif is("filler_behind") {\n\t\t\ts.end = s.size\n\t\t\treturn s.writeAlone(data)\n\t\t}\n'
+            '\t\tif is("filler_behind") {\n\t\t\ts.end = s.size\n\t\t\treturn s.writeWithoutFiller(data)\n\t\t}\n'
             "\t\tif _, err := s.file.WriteAt(data, s.end); err != nil {\n\t\t\treturn err\n\t\t}\n\t\ts.end += length\n",
         ),
         ("\tif endsLine && !s.isFull {", '\tif endsLine && !s.isFull && !is("no_filler") {'),
@@ -392,20 +392,20 @@ fn sync_folder("""),
             "    match fs::canonicalize(path) {",
         ),
         ("create(true).mode(0o600)", 'create(true).mode(if is("made_for_all") { 0o644 } else { 0o600 })'),
-        ("custom_flags(NO_FOLLOW | NO_WAIT)", 'custom_flags(if is("link_replaced") { NO_WAIT } else { NO_FOLLOW | NO_WAIT })'),
+        ("custom_flags(O_NOFOLLOW | O_NONBLOCK)", 'custom_flags(if is("link_replaced") { O_NONBLOCK } else { O_NOFOLLOW | O_NONBLOCK })'),
         (
             "let file = open_locked(&path)?;",
-            'if is("left_early") {\n            let _ = fs::remove_file(beside(&path));\n        }\n'
+            'if is("left_early") {\n            let _ = fs::remove_file(new_file_path(&path));\n        }\n'
             "        let file = open_locked(&path)?;",
         ),
         ("create_new(true)", 'create(true).create_new(!is("beside_kept"))'),
         (
-            "let _ = fs::remove_file(&beside);\n                    return Err(error);",
-            'if let (true, Ok(file)) = (is("rename_takes_beside"), File::open(&beside)) {\n'
+            "let _ = fs::remove_file(&new_path);\n                    return Err(error);",
+            'if let (true, Ok(file)) = (is("rename_takes_beside"), File::open(&new_path)) {\n'
             "                        store.file = file;\n                    }\n"
-            "                    let _ = fs::remove_file(&beside);\n                    return Err(error);",
+            "                    let _ = fs::remove_file(&new_path);\n                    return Err(error);",
         ),
-        ("if !own.is_file() {", "if !own.is_file() && !is_other(own.file_type()) {"),
+        ("if !opened.is_file() {", "if !opened.is_file() && !is_other(opened.file_type()) {"),
         (
             "lock(&file)?;\n        match fs::symlink_metadata(path) {",
             'if !is("lock") {\n            if let Err(error) = lock(&file) {\n                if is("opening_leaks") {\n'
@@ -413,12 +413,12 @@ fn sync_folder("""),
             '        match if is("link_replaced") { fs::metadata(path) } else { fs::symlink_metadata(path) } {',
         ),
         (
-            "if (named.dev(), named.ino()) == (own.dev(), own.ino()) =>",
-            'if is("stale") || (named.dev() == own.dev() && (is("stale_device") || named.ino() == own.ino())) =>',
+            "if (at_path.dev(), at_path.ino()) == (opened.dev(), opened.ino()) =>",
+            'if is("stale") || (at_path.dev() == opened.dev() && (is("stale_device") || at_path.ino() == opened.ino())) =>',
         ),
         (
-            "match fs::remove_file(beside(&path)) {\n            Err(error) if error.kind() != io::ErrorKind::NotFound =>",
-            'match if is("left") { Ok(()) } else { fs::remove_file(beside(&path)) } {\n'
+            "match fs::remove_file(new_file_path(&path)) {\n            Err(error) if error.kind() != io::ErrorKind::NotFound =>",
+            'match if is("left") { Ok(()) } else { fs::remove_file(new_file_path(&path)) } {\n'
             '            Err(error) if error.kind() != io::ErrorKind::NotFound && !is("left_ok") =>',
         ),
         (
@@ -453,24 +453,24 @@ fn sync_folder("""),
         ),
         ("Ok(sync_folder(&store.path)?)", 'Ok(but("folder_ok", sync_folder(&store.path))?)'),
         (
-            "lock(&file)?;\n        let rights = self.file.metadata()?.permissions().mode() & 0o777;",
+            "lock(&file)?;\n        let permissions = self.file.metadata()?.permissions().mode() & 0o777;",
             'if !is("lock_beside") {\n            lock(&file)?;\n        }\n'
-            '        let rights = if is("rights") { 0o600 } else { self.file.metadata()?.permissions().mode() & 0o777 };',
+            '        let permissions = if is("rights") { 0o600 } else { self.file.metadata()?.permissions().mode() & 0o777 };',
         ),
         (
-            "file.write_all(bytes)?;\n        file.sync_all()?;\n        fs::rename(beside, &self.path)?;",
+            "file.write_all(bytes)?;\n        file.sync_all()?;\n        fs::rename(new_path, &self.path)?;",
             'put(&mut file, bytes, "beside_in_part", "beside_ok")?;\n'
             '        but("beside_sync_ok", file.sync_all())?;\n'
-            '        if !is("no_rename") {\n            but("rename_ok", fs::rename(beside, &self.path))?;\n        }',
+            '        if !is("no_rename") {\n            but("rename_ok", fs::rename(new_path, &self.path))?;\n        }',
         ),
         (
             "        if self.is_broken {\n            return",
             '        if self.is_broken {\n            self.is_broken = !is("refused_once");\n'
-            '            if is("writes_broken") {\n                let _ = done(self);\n            }\n            return',
+            '            if is("writes_broken") {\n                let _ = operation(self);\n            }\n            return',
         ),
         (
-            "self.is_broken = true;\n        done(self)?;\n        self.is_broken = false;",
-            'let answer = done(self);\n        self.is_broken = answer.is_err() && !is("goes_on");\n        answer?;',
+            "self.is_broken = true;\n        operation(self)?;\n        self.is_broken = false;",
+            'let answer = operation(self);\n        self.is_broken = answer.is_err() && !is("goes_on");\n        answer?;',
         ),
     ]
 }

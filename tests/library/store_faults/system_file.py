@@ -170,7 +170,7 @@ def driver(to):
             scratch.write(source, "words.rt", file.read())
         root = os.path.dirname(os.path.dirname(os.path.dirname(source)))
         plant(os.path.join(root, "crates", "serf_store"))
-        return file_store.compiled(source, to)
+        return file_store.compile_source(source, to)
 
 
 class Cases(stores.Cases):

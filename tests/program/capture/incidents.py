@@ -45,7 +45,7 @@ def of_day(name, seconds, hours=0):
 def handed_out(written):
     """The events that a written schedule's run hands out, by the agent's name."""
     names = [line.split('"')[1] for line in written.splitlines() if line.startswith("agent ")]
-    trace = checks.ran(["replay"], checks.ran(["write"], written.encode())[1])[1].decode()
+    trace = checks.run_program(["replay"], checks.run_program(["write"], written.encode())[1])[1].decode()
     found = {name: [] for name in names}
     for words in (line.split(" ") for line in trace.splitlines()):
         if words[1] == "event":
@@ -75,7 +75,7 @@ def one_machine(count):
         count.check(f"{name}: without options", got[0] == 1 and said[0] == said[1] and LOST in said[0], (got[0], said))
         count.check(f"{name}: its page shows it", f"\n    # {said[0]}\n" in checks.text_of(FOLDER, "README.md"), said)
         count.check(f"{name}: the schedule is under it", got[1].splitlines()[1] == 'agent "alpha"', got[1][:300])
-        count.check(f"{name}: a comment of a written schedule", checks.ran(["write"], got[1].encode())[0] == 0)
+        count.check(f"{name}: a comment of a written schedule", checks.run_program(["write"], got[1].encode())[0] == 0)
         plain = script(path(f"{name}.pcap"))
         count.check(f"{name}: without a log", plain[0] == 0 and plain[1] == got[1].partition("\n")[2], plain[2])
 
@@ -152,12 +152,12 @@ def pictures(count):
     name = "ports"
     words = options(name, f"beta={moment(name, 'beta was killed')}-{moment(name, 'beta was started')}")
     written = script(path(f"{name}.pcap"), *words)[1]
-    drawn = checks.ran(["draw", "--taken"], checks.ran(["write"], written.encode())[1])[1].decode()
+    drawn = checks.run_program(["draw", "--taken"], checks.run_program(["write"], written.encode())[1])[1].decode()
     got = script(path(f"{name}.pcap"), *words, "--senders", given=drawn)
     count.check("a picture of two lives", got[0] == 0 and got[1].startswith("<svg ") and "'-500'" not in got[1], got[2])
     count.check("their lanes", re.findall(r"y='065'>([^<]*)<", got[1])[:4] == ["alpha", "beta", "beta again", "gamma"], got[1][:900])
     written = script(path(f"{name}.pcap"), *words[-2:])[1]
-    drawn = checks.ran(["draw"], checks.ran(["write"], written.encode())[1])[1].decode()
+    drawn = checks.run_program(["draw"], checks.run_program(["write"], written.encode())[1])[1].decode()
     got = script(path(f"{name}.pcap"), *words[-2:], "--senders", given=drawn)
     said = "<!-- contradiction: beta's log has 2 events"
     count.check("a contradiction in front of a picture", got[0] == 1 and got[1].startswith(said), got[1][:300])

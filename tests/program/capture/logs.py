@@ -36,6 +36,7 @@ def logs(count):
         ("an event that ran before", "1970-01-01T19:59:59Z event beta 1 deploy v1\nevent beta 2 deploy v1\n", 0, ""),
         ("an event that no packet has", "1970-01-01T20:00:05Z event beta 9 x y\n" + whole, 1, extra),
         ("queries, firings and starts", whole + "query beta 1 7\nfired beta 1 a b\nrestarted beta\n", 0, ""),
+        ("handlers that began and ended", whole.replace("event", "begun") + "ended beta 1 deploy v1 0\nended beta 2 deploy v1 1\n", 0, ""),
         ("a line that is none", whole + "nonsense\n", 1, "line 3 is no line of a handlers' log"),
         ("a date that is none", whole + "1970-13-01T20:00:03Z event beta 9 x y\n", 1, "line 3 of the log has an impossible date"),
         ("an unknown node", whole + "event bta 1 deploy v1\n", 1, 'a node "bta", which the capture doesn\'t have'),

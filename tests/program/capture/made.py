@@ -28,8 +28,8 @@ def script(path, *words, given="", **env):
         os.chmod(called, 0o755)
         env = {**os.environ, "PATH": f"{folder}{os.pathsep}{os.environ['PATH']}", **env}
         call = [sys.executable, SCRIPT, path, *words]
-        done = subprocess.run(call, input=given, capture_output=True, text=True, timeout=checks.LIMIT, env=env)
-    return done.returncode, done.stdout, done.stderr
+        result = subprocess.run(call, input=given, capture_output=True, text=True, timeout=checks.LIMIT, env=env)
+    return result.returncode, result.stdout, result.stderr
 
 
 # A capture of frames

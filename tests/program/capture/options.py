@@ -157,7 +157,7 @@ def own_file(count):
         with open(file, "wb") as to:
             to.write(text)
         got = script(path, *NAMES, "--down", "beta=0.5-0.8", "--kept", f"beta={file}")
-    trace = checks.ran(["replay"], checks.ran(["write"], got[1].encode())[1])[1].decode()
+    trace = checks.run_program(["replay"], checks.run_program(["write"], got[1].encode())[1])[1].decode()
     times = [words[3] for words in (line.split(" ") for line in trace.splitlines()) if words[1] == "event" and words[2] == "2"]
     count.check("an own file: the agent keeps its events", got[0] == 0 and 'agent "beta again" keep-events\n' in got[1], got)
     count.check("an own file: nothing is handed out twice", times == ["8", "10"], trace)

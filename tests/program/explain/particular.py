@@ -3,7 +3,7 @@ actions, and about minimum times.
 """
 
 import checks
-from checks import ran, read
+from checks import run_program, read
 from stories import RISES, reasons_of, taken_apart, turns_of, what_is_said
 
 AGENTS = b"agent 61 4 4 512 2 keep 2\nagent 62 4 4 512 2 keep 2\n"
@@ -81,7 +81,7 @@ def kept(count):
     fires = b"fire 0 6465706c6f79 7631 0\nfire 0 6465706c6f79 7632 0\n"
     schedule = KEEPING + fires + b"deliver 1 0 0\nrestart 1 %s\ndeliver 1 1 0\ndeliver 1 0 0\nstate 0\nmerge 1 3 sync\n" % tail
     schedule += b"break 1 append 1\nmerge 1 3 join\nrestart 1 -\ncompact 1\nquery 0 0 7 61 - 1000 0\ndeliver 1 4 0\n"
-    turns = turns_of(ran(["explain"], schedule)[1])
+    turns = turns_of(run_program(["explain"], schedule)[1])
     handed = b'"b" was handed event 1 "deploy" "v1" at action 3'
     opened = b'"b" was opened on a text with the line of event 2 "deploy" "v2"'
     failed = b'the disk of "b" failed at %s, as action %d had planned of number %d from then on; it is stopped until it is opened again'
@@ -97,7 +97,7 @@ def kept(count):
         got = turns[number][1] if turns else None
         count.check(f"kept events: action {number}", got == wanted, got)
     # a join whose own line is durable, and whose event's line isn't
-    state = ran(["replay"], KEEPING + fires + b"state 0\n")[1].split()[-1].replace(b"4576656e744c54696d6503", b"4576656e744c54696d6501")
+    state = run_program(["replay"], KEEPING + fires + b"state 0\n")[1].split()[-1].replace(b"4576656e744c54696d6503", b"4576656e744c54696d6501")
     got = reasons_of(KEEPING + b"inject %s\nbreak 1 flush 2\nmerge 1 0 join\n" % state, 3)
     wanted = b'slot 1 carries event 1 "deploy" "v1": new, but ' + failed % (b"a flush", 2, 2)
     count.check("kept events: a line after the join's", got == [wanted], got)
@@ -110,7 +110,7 @@ def of_earlier_actions(count):
     schedule += b"deliver 0 1 0\ndeliver 0 1 0\nfire 0 61 - 0\nfire 0 62 - 0\nstate 0\nmerge 1 6 join\ndeliver 1 4 0\nrestart 1 -\n"
     schedule += b"query 0 0 8 61 - 1000 0\nquery 0 0 9 61 - 1000 0\ndeliver 1 8 0\ndeliver 1 0 0\nclose 0 2000\ndeliver 0 1 0\n"
     schedule += b"query 0 0 9 63 - 1000 1\nrestart 0 -\ndeliver 0 11 0\n" + b"fire 0 61 - 0\n" * 6 + b"deliver 1 17 0\ndeliver 1 12 0\n"
-    turns = turns_of(ran(["explain"], schedule)[1])
+    turns = turns_of(run_program(["explain"], schedule)[1])
     for number, *wanted in (
         (4, b'query 1 has an ack of "a"'),
         (8, RISES % 3, *(b'slot %d carries event %d "%s" "": below the minimum time 3, unchanged since action 8' % row for row in ((1, 1, b"a"), (2, 2, b"b")))),
@@ -131,7 +131,7 @@ def of_earlier_actions(count):
     count.check("an event twice in a merge", got == wanted, got)
 
 
-def least_times(count):
+def minimum_times(count):
     """A join that raises the minimum time of events says so first, also for a state without events, and no other merge does. If
     the disk fails after that, the reasons say so; if no event of the state was reached, they don't."""
     none = b"the state carries no event"
@@ -139,13 +139,13 @@ def least_times(count):
     schedule = b"agent 61 4 4 512 8 ignore 2\nagent 62 4 4 512 8 keep 2\n" + clocks
     schedule += b"merge 0 0 sync\nmerge 0 0 join\nmerge 0 1 join\nmerge 0 2 join\nmerge 1 3 join\nmerge 0 3 join\nmerge 0 4 join\n"
     schedule += b"restart 0 -\nmerge 0 2 join\nrestart 0 %s\nmerge 0 2 join\n" % b"event-clock: 9\n".hex().encode()
-    turns = turns_of(ran(["explain"], schedule)[1])
+    turns = turns_of(run_program(["explain"], schedule)[1])
     for number, *rises in ((6,), (7, 9), (8,), (9,), (10,), (11, 12), (12,), (14, 9), (16,)):
         got = turns[number][1] if turns else None
-        count.check(f"a minimum time: action {number}", got == [*(RISES % least for least in rises), none], got)
+        count.check(f"a minimum time: action {number}", got == [*(RISES % minimum for minimum in rises), none], got)
     # a state with the clock 2 and events of the times 1 and 2: at the second the disk fails
     fires = b"fire 0 6465706c6f79 7631 0\nfire 0 6465706c6f79 7632 0\n"
-    state = ran(["replay"], KEEPING + fires + b"state 0\n")[1].split()[-1].replace(b"4576656e744c54696d6503", b"4576656e744c54696d6502")
+    state = run_program(["replay"], KEEPING + fires + b"state 0\n")[1].split()[-1].replace(b"4576656e744c54696d6503", b"4576656e744c54696d6502")
     below = b'slot 1 carries event 1 "deploy" "v1": below the minimum time 2, unchanged since action 3'
     failed = b'slot 2 carries event 2 "deploy" "v2": new, but the disk of "b" failed at %s, as action 2 had planned of number %d from then on; it is stopped until it is opened again'
     unheard = b'nothing of the state was heard of: at the line of the minimum time 2 the disk of "b" failed at an append, as action 2 had planned of number 1 from then on; it is stopped until it is opened again'

@@ -4,7 +4,7 @@ other lines of the trace.
 
 import re
 
-from checks import ran
+from checks import run_program
 
 REASON = re.compile(rb"(\d+) because ([\x20-\x7e]+)\Z")
 
@@ -55,7 +55,7 @@ def plain(text):
 
 def decoded(packets):
     """What `decode` prints for each packet, as lines of words; None for a packet that is refused, or is empty."""
-    said = ran(["decode"], b"".join(packet + b"\n" for packet in packets if packet != b"-"))[1].split(b"\n\n")
+    said = run_program(["decode"], b"".join(packet + b"\n" for packet in packets if packet != b"-"))[1].split(b"\n\n")
     rest = iter([line.split() for line in block.split(b"\n") if line] for block in said)
     found = [next(rest) if packet != b"-" else None for packet in packets]
     return [lines if lines and lines[0][0] != b"refused" else None for lines in found]
@@ -87,15 +87,15 @@ class Story:
     def raising(self):
         """Each whole merge that raises its agent's minimum time of events, and to what: by the states' event clocks, and by
         what each restart prints."""
-        least = [1] * len(self.names)
+        minimum = [1] * len(self.names)
         for number, words in enumerate(self.actions, 1):
             lines, reasons = self.turns[number]
             if words[0] == b"restart" and lines[0][0] == b"restarted":
-                least[int(words[1])] = int(re.search(rb": it takes events from (\d+) and queries from ", reasons[0])[1])
+                minimum[int(words[1])] = int(re.search(rb": it takes events from (\d+) and queries from ", reasons[0])[1])
             if words[0] == b"merge" and words[3] == b"join" and lines[0] == [b"merged"] and self.ignores[int(words[1])]:
                 clock = int(next(line[1] for line in self.sent[int(words[2])] if line[0] == b"EventLTime"))
-                if clock > least[int(words[1])]:
-                    least[int(words[1])] = clock
+                if clock > minimum[int(words[1])]:
+                    minimum[int(words[1])] = clock
                     yield number, clock
 
     def handed(self, number):
@@ -159,8 +159,8 @@ class Story:
 
 def taken_apart(count, name, schedule):
     """The text contains the trace unchanged, and after each action's lines at least one reason."""
-    status, text, said = ran(["explain"], schedule)
-    traced = ran(["replay"], schedule)
+    status, text, said = run_program(["explain"], schedule)
+    traced = run_program(["replay"], schedule)
     count.check(f"{name}: its trace", (status, plain(text), said) == traced, (status, said))
     turns = turns_of(text)
     if status == 0:
@@ -204,4 +204,4 @@ def what_is_said(count, name, story):
 
 
 def reasons_of(schedule, number):
-    return turns_of(ran(["explain"], schedule)[1])[number][1]
+    return turns_of(run_program(["explain"], schedule)[1])[number][1]

@@ -1,13 +1,13 @@
-// Measures how many events a second a node fires. GOPATH decides with which package serf it is compiled, Serf's or
-// ours.
+// This program measures how many events per second a node fires. GOPATH decides with which package serf it is compiled,
+// Serf's or ours.
 //
 //	firing SNAPSHOT CALLERS EVENTS
 //	firing rpc:ADDRESS CALLERS EVENTS
 //
 // CALLERS goroutines together fire EVENTS events at a single node. If SNAPSHOT is -, the node keeps everything in
-// memory. The program prints a line with the events a second until the last call returned, how many of the events
-// arrived on EventCh, and the memory of the process in KiB at that time. With rpc: the callers are connections to an
-// agent, and the line has only the events a second.
+// memory. The program prints one line. The line has the number of events per second until the last call returned, the
+// number of events that arrived on EventCh, and the memory of the process in KiB at that time. With rpc:ADDRESS, the
+// callers are connections to an agent, and the line has only the number of events per second.
 package main
 
 import (
@@ -26,13 +26,14 @@ import (
 	"github.com/hashicorp/serf/serf"
 )
 
+// must ends the program if err isn't nil.
 func must(err error) {
 	if err != nil {
 		log.Fatal(err)
 	}
 }
 
-// startNode starts a node without others, and counts the events that it hands out.
+// startNode starts a node that joins no others, and counts the events that it hands out.
 func startNode(path string, received *atomic.Int64) *serf.Serf {
 	events := make(chan serf.Event, 1024)
 	go func() {
@@ -63,8 +64,8 @@ func memoryKiB() string {
 	return strings.Fields(rest)[0]
 }
 
-// fireAll fires count events from several callers at once, and returns the events a second. newCaller is called once
-// for each caller, before the clock starts.
+// fireAll fires count events from several callers at once, and returns the number of events per second. It calls
+// newCaller once for each caller, before it starts to measure the time.
 func fireAll(callers, count int, newCaller func() func(payload []byte) error) float64 {
 	var running sync.WaitGroup
 	begin := make(chan struct{})

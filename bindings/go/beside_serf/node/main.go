@@ -1,5 +1,5 @@
-// A node for a cluster with Serf's own agents. It is a program over the package serf that runs the commands it reads
-// from standard input, one on each line, and answers each with a line that begins with "ok" or "error".
+// This program runs a node for a cluster with Serf's own agents. It uses the package serf. It reads commands from
+// standard input, one on each line, and answers each with a line that begins with "ok" or "error".
 //
 //	node -name NAME -bind ADDRESS -snapshot FILE -log FILE [-tags K=V,..] [-keep] [-states DURATION]
 //
@@ -12,8 +12,8 @@
 //	stats             prints the node's counts
 //	leave             leaves the cluster
 //
-// Its log has a line for each event and each query that was handed out, in the format that `serf-replay judge` reads. A
-// file that KITCHENRUE_FAULTS names decides what happens to packets (../../serf/faults.go).
+// The program's log has a line for each event and each query that was handed out, in the format that `serf-replay
+// judge` reads. If KITCHENRUE_FAULTS names a file, that file decides what happens to packets (../../serf/faults.go).
 package main
 
 import (
@@ -38,7 +38,7 @@ const (
 	queryTimeout     = 3 * time.Second
 )
 
-// node is the program's node.
+// node is the node that this program runs.
 type node struct {
 	*serf.Serf
 	name            string
@@ -46,30 +46,31 @@ type node struct {
 	acks, responses nameSet
 }
 
-// nameSet are the names of the nodes that sent something since the last time.
+// nameSet has the names of the nodes that have sent something since the last call of take.
 type nameSet struct {
-	mu  sync.Mutex
-	all map[string]bool
+	mu    sync.Mutex
+	names map[string]bool
 }
 
+// add adds a name to the set.
 func (n *nameSet) add(name string) {
 	n.mu.Lock()
 	defer n.mu.Unlock()
-	if n.all == nil {
-		n.all = map[string]bool{}
+	if n.names == nil {
+		n.names = map[string]bool{}
 	}
-	n.all[name] = true
+	n.names[name] = true
 }
 
 // take returns the names in order, separated by commas, and forgets them.
 func (n *nameSet) take() string {
 	n.mu.Lock()
 	defer n.mu.Unlock()
-	names := make([]string, 0, len(n.all))
-	for name := range n.all {
+	names := make([]string, 0, len(n.names))
+	for name := range n.names {
 		names = append(names, name)
 	}
-	n.all = nil
+	n.names = nil
 	if len(names) == 0 {
 		return "-"
 	}
@@ -77,6 +78,7 @@ func (n *nameSet) take() string {
 	return strings.Join(names, ",")
 }
 
+// check ends the program if err isn't nil.
 func check(err error) {
 	if err != nil {
 		log.Fatal(err)
@@ -94,8 +96,8 @@ func tagsOf(text string) map[string]string {
 	return tags
 }
 
-// escaped returns a text as a log has it.
-func escaped(text string) string {
+// escape returns a text in the form in which the log has it.
+func escape(text string) string {
 	if text == "" {
 		return "-"
 	}
@@ -107,10 +109,10 @@ func (n *node) handle(events <-chan serf.Event) {
 	for event := range events {
 		switch event := event.(type) {
 		case serf.UserEvent:
-			fmt.Fprintf(n.handled, "event %s %d %s %s\n", n.name, event.LTime, escaped(event.Name), escaped(string(event.Payload)))
+			fmt.Fprintf(n.handled, "event %s %d %s %s\n", n.name, event.LTime, escape(event.Name), escape(string(event.Payload)))
 		case *serf.Query:
 			// The package doesn't export a query's ID, which distinguishes the queries of one Lamport time.
-			id := reflect.ValueOf(event).Elem().FieldByName("handed").Elem().FieldByName("ID").Uint()
+			id := reflect.ValueOf(event).Elem().FieldByName("pending").Elem().FieldByName("ID").Uint()
 			fmt.Fprintf(n.handled, "query %s %d %d\n", n.name, event.LTime, id)
 			if err := event.Respond([]byte(n.name)); err != nil {
 				log.Print(err)
@@ -146,8 +148,8 @@ func (n *node) run(line string) (string, error) {
 		count, err := n.Join(words[1:], false)
 		return fmt.Sprint(count), err
 	case len(words) == 3 && words[0] == "fire":
-		at, err := n.Fire(words[1], []byte(words[2]), false)
-		return fmt.Sprint(at), err
+		time, err := n.Fire(words[1], []byte(words[2]), false)
+		return fmt.Sprint(time), err
 	case len(words) == 2 && words[0] == "query":
 		return "", n.query(words[1])
 	case line == "answers":

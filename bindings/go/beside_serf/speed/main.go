@@ -1,13 +1,13 @@
-// Measures how many events a second a node accepts through memberlist on the loopback address. speed/run compiles it
-// twice: with Serf's own package, and with ours in its place.
+// This program measures how many events per second a node accepts through memberlist on the loopback address. speed/run
+// compiles it twice: with Serf's own package, and with ours in its place.
 //
 //	speed FOLDER [EVENTS]
 //
-// The node receives the packets of another node's events, with as many in a datagram as memberlist's gossip puts into
-// one. At most 768 packets are in flight, so that none is dropped (memberlist queues 1,024), and the node's buffer has
-// room for all times, since memberlist handles the last packet first. The node's snapshot is in FOLDER. The program
-// counts the events on the node's channel, and prints the seconds it took and the events a second. If SPEED_PLAIN is
-// set, the node uses memberlist's own transport, without the guard.
+// The node receives the packets of another node's events. Each datagram contains as many packets as a datagram of
+// memberlist's gossip. At most 768 packets are in flight, so that none is dropped (memberlist queues 1,024). The node's
+// buffer has room for all times, since memberlist handles the last packet first. The node's snapshot is in FOLDER. The
+// program counts the events on the node's channel, and prints how many seconds they took and how many events per second
+// that is. If SPEED_PLAIN is set, the node uses memberlist's own transport, without the guard.
 package main
 
 import (
@@ -26,20 +26,22 @@ import (
 	"github.com/hashicorp/serf/serf"
 )
 
-// The maximum number of packets in flight, and the number of Lamport times in the node's event buffer.
+// maxInFlight is the maximum number of packets in flight. eventBuffer is the number of Lamport times in the node's
+// event buffer.
 const (
 	maxInFlight = 768
 	eventBuffer = 32768
 )
 
+// check ends the program if err isn't nil.
 func check(err error) {
 	if err != nil {
 		log.Fatal(err)
 	}
 }
 
-// packets returns the packets of another node's events, with the Lamport times from 1 to count.
-func packets(count int) (list [][]byte) {
+// eventPackets returns the packets of another node's events, with the Lamport times from 1 to count.
+func eventPackets(count int) (list [][]byte) {
 	for time := 1; time <= count; time++ {
 		packet := binary.BigEndian.AppendUint32([]byte("\x03\x84\xa5LTime\xce"), uint32(time))
 		list = append(list, append(packet, "\xa4Name\xa6deploy\xa7Payload\xb9version 12 of the program\xa2CC\xc2"...))
@@ -47,9 +49,9 @@ func packets(count int) (list [][]byte) {
 	return list
 }
 
-// datagrams packs the packets into memberlist's compound messages of at most 1,400 bytes. counts is how many packets
-// each one has.
-func datagrams(packets [][]byte) (datagrams [][]byte, counts []int) {
+// packDatagrams packs the packets into memberlist's compound messages of at most 1,400 bytes. counts has the number of
+// packets in each of them.
+func packDatagrams(packets [][]byte) (datagrams [][]byte, counts []int) {
 	for len(packets) > 0 {
 		count, size := 0, 2
 		for count < len(packets) && count < 255 && size+3+len(packets[count]) <= 1400 {
@@ -70,12 +72,12 @@ func datagrams(packets [][]byte) (datagrams [][]byte, counts []int) {
 
 // sendAll sends the packets to a node whose events are counted in handled, and returns how long that took.
 func sendAll(packets [][]byte, to string, handled *atomic.Int64) time.Duration {
-	all, counts := datagrams(packets)
+	datagrams, counts := packDatagrams(packets)
 	socket, err := net.Dial("udp", to)
 	check(err)
 	defer socket.Close()
 	began := time.Now()
-	await := func(count int) {
+	awaitHandled := func(count int) {
 		for handled.Load() < int64(count) {
 			time.Sleep(20 * time.Microsecond)
 			if time.Since(began) > time.Minute {
@@ -83,13 +85,13 @@ func sendAll(packets [][]byte, to string, handled *atomic.Int64) time.Duration {
 			}
 		}
 	}
-	for i, sentCount := 0, 0; i < len(all); i++ {
+	for i, sentCount := 0, 0; i < len(datagrams); i++ {
 		sentCount += counts[i]
-		await(sentCount - maxInFlight)
-		_, err := socket.Write(all[i])
+		awaitHandled(sentCount - maxInFlight)
+		_, err := socket.Write(datagrams[i])
 		check(err)
 	}
-	await(len(packets))
+	awaitHandled(len(packets))
 	return time.Since(began)
 }
 
@@ -133,7 +135,7 @@ func main() {
 	defer os.Remove(path)
 	node, handled := startNode(path)
 	local := node.LocalMember()
-	took := sendAll(packets(count), fmt.Sprintf("%s:%d", local.Addr, local.Port), handled)
+	took := sendAll(eventPackets(count), fmt.Sprintf("%s:%d", local.Addr, local.Port), handled)
 	fmt.Printf("%.2f s, %.0f a second\n", took.Seconds(), float64(count)/took.Seconds())
 	check(node.Shutdown())
 }

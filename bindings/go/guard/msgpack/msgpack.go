@@ -1,5 +1,5 @@
 // Package msgpack reads MessagePack value by value, from bytes or from a stream. It never trusts a length before the
-// bytes are there, and allocates no memory for one.
+// bytes have arrived, and allocates no memory for a length alone.
 package msgpack
 
 import (
@@ -7,7 +7,7 @@ import (
 	"errors"
 )
 
-// Why a Reader stopped.
+// These are the errors for which a Reader stops.
 var (
 	ErrLong = errors.New("a value is longer than the bytes that are available or allowed")
 	ErrKind = errors.New("a value has the wrong type")
@@ -19,14 +19,14 @@ const MaxDepth = 8
 
 // Reader reads one value after another. After the first error it reads nothing more, and keeps that error.
 type Reader struct {
-	// Data is what was received, and At the number of bytes that were read.
+	// Data has the bytes that were received. At is how many of them the Reader has read.
 	Data []byte
 	At   int
-	// More appends at least this many bytes to Data, which then has at most Max bytes. If More is nil, Data is all
-	// there is.
-	More func(least int) error
+	// More appends at least minimum bytes to Data, which may then have at most Max bytes. If More is nil, no bytes
+	// follow those in Data.
+	More func(minimum int) error
 	Max  int
-	// Err is why nothing more is read.
+	// Err is the error for which the Reader has stopped, or nil.
 	Err error
 }
 
@@ -76,8 +76,8 @@ const (
 	Map
 )
 
-// Next reads a value, or the head of one that contains bytes or other values. It returns the kind, and the number, the
-// flag, or how many bytes, values or pairs follow. After an error it returns Nil.
+// Next reads a value. If the value contains bytes or other values, Next reads only its head. It returns the kind, and
+// the number or the flag, or how many bytes, values or pairs follow. After an error it returns Nil.
 func (r *Reader) Next() (Kind, uint64) {
 	head := r.Take(1)
 	if head == nil {
@@ -121,14 +121,14 @@ func (r *Reader) Next() (Kind, uint64) {
 	return Nil, 0
 }
 
-// Count returns n, the number of values that follow, each at least size bytes long. If the bytes that may still follow
-// can't hold them, it fails with ErrLong and returns 0.
+// Count checks and returns n, the number of values that follow, each at least size bytes long. If the remaining bytes
+// can't contain so many values, it fails with ErrLong and returns 0.
 func (r *Reader) Count(n, size uint64) int {
-	left := len(r.Data) - r.At
+	available := len(r.Data) - r.At
 	if r.More != nil {
-		left = r.Max - r.At
+		available = r.Max - r.At
 	}
-	if r.Err != nil || n > uint64(left)/size {
+	if r.Err != nil || n > uint64(available)/size {
 		r.Fail(ErrLong)
 		return 0
 	}
@@ -138,6 +138,7 @@ func (r *Reader) Count(n, size uint64) int {
 // Skip passes over a value and everything it contains.
 func (r *Reader) Skip() { r.skip(0) }
 
+// skip is Skip for a value inside depth arrays and maps.
 func (r *Reader) skip(depth int) {
 	count := 0
 	switch kind, n := r.Next(); kind {

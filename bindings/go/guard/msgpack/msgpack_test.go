@@ -32,7 +32,8 @@ func TestSkip(t *testing.T) {
 	}
 }
 
-// A count that the remaining bytes can't hold is refused before anything after it is read, in a stream as well.
+// If the remaining bytes can't contain as many values as a count says, the Reader refuses the count before it reads any
+// of them. This also holds for a stream.
 func TestCountsAreNotTrusted(t *testing.T) {
 	for _, text := range []string{"\xdf\x00\x00\x00\x06", "\xdd\x00\x00\x00\x0b", "\xde\x00\x06", "\xdc\x00\x0b", "\x86", "\x9b"} {
 		d := &Reader{Data: []byte(text + strings.Repeat("\xc0", 10))}

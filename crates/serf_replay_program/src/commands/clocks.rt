@@ -1,4 +1,4 @@
-//! `clocks`: the clocks that are restored from a snapshot.
+//! The command `clocks` prints the clocks that a program restores from a snapshot.
 
 use crate::command_error::{CommandError, CommandResult, Status};
 use crate::io::{Io, name_of};
@@ -26,7 +26,7 @@ pub(crate) const COMMAND: CommandRow = CommandRow {
     },
 };
 
-/// Appends the lines of `clocks`, each after `word`.
+/// Appends the lines that show `clocks`, each of which begins with `word`.
 fn write_clocks(
     out: &mut Vec<u8>,
     alloc: Global,
@@ -40,8 +40,9 @@ fn write_clocks(
     Ok(())
 }
 
-/// The clocks that are restored from a snapshot. If `is_own` is true, an agent of this project restores them. Otherwise
-/// it is stock Serf with `-rejoin`, and also without it if the snapshot has a line `leave`.
+/// Returns text with the clocks that programs restore from a snapshot. If `is_own` is true, these are the clocks that
+/// an agent of this project restores. If `is_own` is false, these are the clocks that stock Serf restores with
+/// `-rejoin` and, if the snapshot contains a line `leave`, also those that it restores without `-rejoin`.
 fn all_clocks(alloc: Global, snapshot: &[u8], is_own: bool) -> Result<Vec<u8>, AllocError> {
     let mut out = Vec::new(alloc);
     if is_own {
@@ -56,7 +57,7 @@ fn all_clocks(alloc: Global, snapshot: &[u8], is_own: bool) -> Result<Vec<u8>, A
     Ok(out)
 }
 
-/// Appends the object of the clocks that `reader` restores.
+/// Appends an object with the clocks that `reader` restores.
 fn write_object_of<'a>(
     out: &mut Vec<u8>,
     reader: &'a str,
@@ -73,7 +74,7 @@ fn write_object_of<'a>(
     write_object(out, b"clocks", &members)
 }
 
-/// The objects of the clocks that are restored from a snapshot, as in [`all_clocks`].
+/// Returns objects with the clocks that programs restore from a snapshot, for the same programs as in [`all_clocks`].
 fn clock_objects(alloc: Global, snapshot: &[u8], is_own: bool) -> Result<Vec<u8>, AllocError> {
     let mut out = Vec::new(alloc);
     if is_own {
@@ -88,7 +89,7 @@ fn clock_objects(alloc: Global, snapshot: &[u8], is_own: bool) -> Result<Vec<u8>
     Ok(out)
 }
 
-/// Refuses the text of this file, or of standard input, if none of its lines is a line of a snapshot.
+/// If `text`, which was read from `path` or from standard input, contains no line of a snapshot, refuses this text.
 pub(super) fn check_snapshot<'a>(path: &'a str, text: &[u8]) -> Result<(), CommandError<'a>> {
     if is_snapshot(text) {
         return Ok(());
@@ -97,7 +98,7 @@ pub(super) fn check_snapshot<'a>(path: &'a str, text: &[u8]) -> Result<(), Comma
     Err(CommandError::File(name, what, Status::Refused))
 }
 
-/// Prints the clocks that are restored from the snapshot in a file, or on standard input.
+/// Prints the clocks that programs restore from the snapshot in a file, or on standard input.
 pub(super) fn run<'a>(io: Io, matches: &ArgMatches<'a>) -> CommandResult<'a> {
     let is_json = is_json(matches)?;
     let file = matches.get_str("FILE").unwrap_or("-");

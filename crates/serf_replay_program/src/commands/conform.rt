@@ -1,7 +1,8 @@
-//! `conform`: compares any agent with the reference. The agent's calls are written to standard output, and its replies
-//! are read from standard input.
+//! The command `conform` compares any agent with the reference. The command writes the agent's calls to standard
+//! output, and reads the agent's replies from standard input.
 
 mod hunting;
+mod missing;
 mod report;
 mod session;
 
@@ -12,7 +13,8 @@ use crate::options::OptionKind::{Flag, Number, Place, Word};
 use crate::options::{CommandKind, CommandRow, KINDS_OR_ALL, bad_word, rows};
 use clap::ArgMatches;
 use hunting::seeds_of;
-use serf_conform::Rules;
+use missing::missing_of;
+use serf_conform::{MissingCalls, Rules};
 use serf_random::MAX_ROUNDS_AGENTS;
 use session::{Against, hold_against, hold_file};
 
@@ -26,35 +28,42 @@ pub(crate) const COMMAND: CommandRow = CommandRow {
         "FILE" Place => "The schedule whose calls the agent gets; leave it out with --random";
         "agent" Word("AGENT") => "Compares only this agent of the schedule, given by its number, from 0 on, or its name; all agents if it is left out";
         "rules" Word("RULES") => "`serf` ends before the first turn that rests on a rule of this project's own; `own` (the default) compares all turns";
+        "without" Word("CALLS") => "Leaves out these calls, with commas between them, and those that depend on them (docs/CONFORMANCE.md): query,respond,close leaves out queries";
         "random" Word("A-B") => "Makes the random schedules of seeds A to B, and uses these in place of a file";
         "kind" Word("KIND") => KINDS_OR_ALL;
         "agents" Number("N", 0, MAX_ROUNDS_AGENTS) => AGENTS;
         "actions" Number("N", 0, u64::MAX) => ACTIONS;
         "go-on" Number("N", 1, u64::MAX) => "With --random: continues after a disagreement, until N of them were reported";
         "shrink" Flag => "If an agent disagrees: leaves out calls, until no single one of the rest can be left out";
-        "save" Word("FILE") => "The file to which --shrink writes the remaining calls, as a schedule; standard error if it is left out";
+        "save" Word("FILE") => "The file to which --shrink, or --without with a schedule, writes the remaining calls, as a schedule; --shrink writes to standard error if it is left out";
         "report" Word("FILE") => "The file to which a line of JSON is written for each disagreement, and one at the end";
     },
 };
 
-/// How agents are compared, for any schedule.
+/// The options that determine how agents are compared with the reference.
 #[derive(Clone, Copy)]
 struct HoldOptions<'a> {
     rules: Rules,
-    /// Whether the calls at which an agent fails are shortened.
+    /// The calls that are left out because the agents don't support them, or `None` if no calls are left out.
+    missing: Option<MissingCalls>,
+    /// Whether the command shortens the list of calls at which an agent fails.
     shrinks: bool,
-    /// The file for the schedule with the calls that are left, or `None` for standard error.
+    /// The file to which the schedule with the remaining calls is written, or `None` for standard error.
     save: Option<&'a str>,
-    /// The file for the report in JSON, or `None` if no report is requested.
+    /// The file to which the report in JSON is written, or `None` if no report is requested.
     report: Option<&'a str>,
-    /// How many disagreements are reported for all seeds together. If it is `None`, the command ends after the first.
+    /// The number of disagreements, over all seeds together, after which the command ends. If this number is `None`,
+    /// the command ends after the first disagreement.
     go_on: Option<u64>,
 }
 
-/// Refuses `--save` without `--shrink`, and `--go-on` if the command ends after the first disagreement anyway.
+/// Refuses `--save` if no schedule with fewer calls will be made, and `--go-on` if the command ends after the first
+/// disagreement anyway.
 fn check<'a>(asked: &HoldOptions, is_random: bool) -> Result<(), CommandError<'a>> {
-    if asked.save.is_some() && !asked.shrinks {
-        return Err(bad_word("save", "a file, and only with --shrink"));
+    let leaves_out = asked.shrinks || (asked.missing.is_some() && !is_random);
+    if asked.save.is_some() && !leaves_out {
+        let words = "a file, and only with --shrink, or with a schedule and --without";
+        return Err(bad_word("save", words));
     }
     if asked.go_on.is_some() && (asked.shrinks || !is_random) {
         let words = "a number, and only with --random and without --shrink";
@@ -63,10 +72,11 @@ fn check<'a>(asked: &HoldOptions, is_random: bool) -> Result<(), CommandError<'a
     Ok(())
 }
 
-/// The options of the command line.
+/// Returns the options that the command line selects.
 fn asked_of<'a>(matches: &ArgMatches<'a>) -> Result<HoldOptions<'a>, CommandError<'a>> {
     let asked = HoldOptions {
         rules: rules_of(matches)?,
+        missing: missing_of(matches)?,
         shrinks: matches.get_flag("shrink"),
         save: matches.get_str("save"),
         report: matches.get_str("report"),
@@ -76,7 +86,8 @@ fn asked_of<'a>(matches: &ArgMatches<'a>) -> Result<HoldOptions<'a>, CommandErro
     Ok(asked)
 }
 
-/// Compares agents with the reference on the schedule of a file, or one agent on the schedules of seeds.
+/// Compares agents with the reference on the schedule in a file, or compares one agent on the random schedules of many
+/// seeds.
 pub(super) fn run<'a>(io: Io, matches: &ArgMatches<'a>) -> CommandResult<'a> {
     let asked = asked_of(matches)?;
     let io = Io {

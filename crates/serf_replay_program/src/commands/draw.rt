@@ -1,4 +1,4 @@
-//! `draw`: a picture of a schedule's run.
+//! The command `draw` draws a picture of a schedule's run.
 
 use crate::command_error::{CommandError, CommandResult};
 use crate::io::Io;
@@ -34,7 +34,7 @@ enum PictureForm {
     Mermaid,
 }
 
-/// The part of a run that the command line selects, for the schedule with this text.
+/// Returns which part of a run the command line selects. The argument `text` is the text of the schedule.
 fn asked_of<'a>(
     alloc: Global,
     matches: &ArgMatches<'a>,
@@ -53,7 +53,7 @@ fn asked_of<'a>(
     })
 }
 
-/// Writes a picture. If it has no agent or no action, reports this on standard error.
+/// Writes a picture. If the picture shows no agent or no action, the function reports this on standard error.
 fn write_picture<'a>(io: Io, picture: &Picture, form: PictureForm) -> CommandResult<'a> {
     if picture.lanes.is_empty() {
         let _ = eprintln!(io.rt; "the schedule has no agents: the picture is empty");
@@ -67,14 +67,16 @@ fn write_picture<'a>(io: Io, picture: &Picture, form: PictureForm) -> CommandRes
     io.finish(&text?)
 }
 
-/// The picture of the run of the schedule in a file, or on standard input, with the part that the command line selects.
+/// Runs the schedule in a file, or on standard input, and returns a picture of the run. The picture shows the part of
+/// the run that the command line selects.
 fn picture_of<'a>(io: Io, matches: &ArgMatches<'a>) -> Result<Picture, CommandError<'a>> {
     let text = io.schedule(matches)?.text()?;
     let asked = asked_of(io.alloc(), matches, &text)?;
     Ok(draw_picture(io.alloc(), &text, &asked, &mut Progress::of(io, ACTIONS))?)
 }
 
-/// Draws the run of the schedule in a file, or on standard input, as the command line says.
+/// Draws the run of the schedule in a file, or on standard input. The command line selects the format of the picture
+/// and the part of the run.
 pub(super) fn run<'a>(io: Io, matches: &ArgMatches<'a>) -> CommandResult<'a> {
     let forms = [("svg", PictureForm::Svg), ("mermaid", PictureForm::Mermaid)];
     let form = chosen(matches, "as", &forms, "svg or mermaid")?;

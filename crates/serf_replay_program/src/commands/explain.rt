@@ -1,4 +1,5 @@
-//! `explain`: a schedule's trace with its reasons, either after the whole run or line by line.
+//! The command `explain` prints the trace of a schedule together with the reasons, either after the whole run or line
+//! by line.
 
 use crate::command_error::{CommandError, CommandResult, Status, command_line};
 use crate::io::Io;
@@ -26,7 +27,7 @@ pub(crate) const COMMAND: CommandRow = CommandRow {
     },
 };
 
-/// If `range` contains no action of a schedule with `actions` actions, reports this.
+/// If `range` contains none of the `actions` actions in a schedule, reports this on standard error.
 fn tell_empty(io: Io, range: Range, actions: u64) {
     let Range { from, to, .. } = range;
     if from > actions {
@@ -36,8 +37,8 @@ fn tell_empty(io: Io, range: Range, actions: u64) {
     }
 }
 
-/// Writes the part of the trace that the command line selects, with its reasons. The whole schedule is read first.
-/// Returns the number of its actions.
+/// Writes the part of the trace that the command line selects, together with the reasons. The function reads the whole
+/// schedule first, and returns the number of actions in it.
 fn explain_part<'a>(
     io: Io,
     matches: &ArgMatches<'a>,
@@ -54,7 +55,8 @@ fn explain_part<'a>(
     Ok(explain(io.alloc(), &mut reader, &mut output, &range, &mut progress)?)
 }
 
-/// Writes the trace of a schedule with its reasons, line by line. Returns the number of its actions.
+/// Writes the trace of a schedule line by line, together with the reasons. Returns the number of actions in the
+/// schedule.
 fn explain_stream<'a>(io: Io, matches: &ArgMatches<'a>) -> Result<u64, CommandError<'a>> {
     let (mut source, mut output) = (io.schedule(matches)?, io::writer(&io));
     if is_json(matches)? {
@@ -63,8 +65,9 @@ fn explain_stream<'a>(io: Io, matches: &ArgMatches<'a>) -> Result<u64, CommandEr
     Ok(explain_lines(io.alloc(), &mut source, &mut output)?)
 }
 
-/// Writes the trace of the schedule in a file, or on standard input, with its reasons. If requested, this is done line
-/// by line. A bad line then ends it, after the text of the lines before was written.
+/// Writes the trace of the schedule in a file, or on standard input, together with the reasons. If the command line
+/// requests it, the function works line by line. In that mode, the function writes the text of all lines before a bad
+/// line, and then stops.
 pub(super) fn run<'a>(io: Io, matches: &ArgMatches<'a>) -> CommandResult<'a> {
     let (from, to) = (matches.get_one::<u64>("from"), matches.get_one::<u64>("to"));
     let is_part = from.is_some() || to.is_some() || matches.get_str("agent").is_some();

@@ -1,6 +1,7 @@
-//! `judge`: the promises about events and queries, checked on the log of any Serf.
+//! The command `judge` uses the log of any Serf to check whether the promises about events and queries were kept.
 
-mod verdicts;
+pub(super) mod starts;
+pub(super) mod verdicts;
 
 use super::clocks::check_snapshot;
 use crate::command_error::{CommandError, CommandResult, Status};
@@ -11,8 +12,9 @@ use clap::ArgMatches;
 use serf_judge::{Log, has_node, join_logs, read_log};
 use serf_judge_json::{LogName, LogPlaces, judgement_objects, kept_objects, status_object};
 use serf_text::StreamError;
+use starts::{Start, StartedProgram, starts_of};
 use std::alloc::{AllocError, Global};
-use verdicts::{LogFile, ReadBy, Start, Verdicts, readers_of};
+use verdicts::{LogFile, Verdicts};
 
 /// The command's options and arguments.
 pub(crate) const COMMAND: CommandRow = CommandRow {
@@ -30,7 +32,7 @@ pub(crate) const COMMAND: CommandRow = CommandRow {
     },
 };
 
-/// Reads the log in a file, or on standard input if `file` is `-`. A log has no name if it is the only one.
+/// Reads the log in the file `file`, or on standard input if `file` is `-`. If there is only one log, it has no name.
 fn log_of<'a>(io: Io, file: &'a str, is_alone: bool) -> Result<Log, CommandError<'a>> {
     let name = (!is_alone).then_some(file);
     let mut source = io.source(Some(file))?;
@@ -42,14 +44,15 @@ fn log_of<'a>(io: Io, file: &'a str, is_alone: bool) -> Result<Log, CommandError
     }
 }
 
-/// Appends the log `name` to `places`. The logs before it have `before` lines together.
+/// Appends the log `name` to `places`. The argument `before` is the total number of lines in all earlier logs.
 fn add<'a>(places: &mut Vec<LogFile<'a>>, name: &'a str, before: u64) -> Result<(), AllocError> {
     places.push(LogFile { name, before })?;
     Ok(())
 }
 
-/// Reads the logs in the files `names`, one after another. Adds the place at which each begins to `places`.
-fn logs_of<'a>(
+/// Reads the logs in the files `names`, one after another. The function adds the name of each log, and the number of
+/// lines in all earlier logs, to `places`.
+pub(super) fn logs_of<'a>(
     io: Io,
     names: &[&'a str],
     places: &mut Vec<LogFile<'a>>,
@@ -67,7 +70,7 @@ fn logs_of<'a>(
     Ok(log)
 }
 
-/// Reads the snapshot in a file. Refuses a text that isn't a snapshot.
+/// Reads the snapshot in the file `path`. If the text in the file isn't a snapshot, the function refuses it.
 fn snapshot_of<'a>(io: Io, path: &'a str) -> Result<Vec<u8>, CommandError<'a>> {
     let snapshot = match io.file(path)?.text() {
         Ok(snapshot) => snapshot,
@@ -78,8 +81,12 @@ fn snapshot_of<'a>(io: Io, path: &'a str) -> Result<Vec<u8>, CommandError<'a>> {
     Ok(snapshot)
 }
 
-/// The node and the text of the snapshot that `word` names, which has the form `NODE=SNAPSHOT`.
-fn kept_of<'a>(io: Io, log: &Log, word: &'a str) -> Result<(&'a [u8], Vec<u8>), CommandError<'a>> {
+/// Reads `word`, which has the form `NODE=SNAPSHOT`, and returns the node and the text of the snapshot.
+fn node_and_snapshot_of<'a>(
+    io: Io,
+    log: &Log,
+    word: &'a str,
+) -> Result<(&'a [u8], Vec<u8>), CommandError<'a>> {
     let Some((node, path)) = word.split_once('=') else {
         let wants = "--kept needs NODE=SNAPSHOT, not '";
         return Err(CommandError::CommandLine(wants, word, "'", "", ""));
@@ -91,59 +98,87 @@ fn kept_of<'a>(io: Io, log: &Log, word: &'a str) -> Result<(&'a [u8], Vec<u8>), 
     Ok((node.as_bytes(), snapshot_of(io, path)?))
 }
 
-/// The program that is assumed to start from the snapshots, according to the command line. `--serf` overrides `--own`.
-fn reads_of(matches: &ArgMatches) -> ReadBy {
+/// A node, and the text of its snapshot.
+#[derive(Drop)]
+pub(super) struct NodeSnapshot<'a> {
+    node: &'a [u8],
+    text: Vec<u8>,
+}
+
+/// Returns the snapshots that `words` name. Each word has the form `NODE=SNAPSHOT`.
+pub(super) fn snapshots_of<'a>(
+    io: Io,
+    log: &Log,
+    words: &[&'a str],
+) -> Result<Vec<NodeSnapshot<'a>>, CommandError<'a>> {
+    let mut snapshots = Vec::new(io.alloc());
+    for word in words {
+        let (node, text) = node_and_snapshot_of(io, log, word)?;
+        if snapshots.push(NodeSnapshot { node, text }).is_err() {
+            return Err(CommandError::NoMemory);
+        }
+    }
+    Ok(snapshots)
+}
+
+/// Returns the program that, according to the command line, is started on the snapshots. The option `--serf` overrides
+/// `--own`.
+fn program_of(matches: &ArgMatches) -> StartedProgram {
     if matches.get_flag("serf") {
-        ReadBy::Serf
+        StartedProgram::Serf
     } else if matches.get_flag("own") {
-        ReadBy::Own
+        StartedProgram::Own
     } else {
-        ReadBy::Writer
+        StartedProgram::Writer
     }
 }
 
-/// Writes the verdicts on a log, which consists of `logs`, one after another. The status is `Refused` if a promise is
-/// broken or a line is bad.
-fn judge<'a>(io: Io, matches: &ArgMatches<'a>, log: &Log, logs: &[LogFile]) -> CommandResult<'a> {
+/// Returns the verdicts on a log, which consists of `files`, one after another. The verdicts also cover which events
+/// and queries can be handed out again after a program is started on one of `snapshots`.
+pub(super) fn verdicts_of<'a>(
+    alloc: Global,
+    log: &'a Log,
+    files: &'a [LogFile<'a>],
+    snapshots: &[NodeSnapshot],
+    reads: StartedProgram,
+    tells_missed: bool,
+) -> Result<Verdicts<'a>, AllocError> {
     let mut verdicts = Verdicts {
-        text: Vec::new(io.alloc()),
+        text: Vec::new(alloc),
         is_broken: false,
-        logs,
+        logs: files,
         dates: &log.dates,
     };
-    verdicts.judge(io.alloc(), log, matches.get_flag("missed"))?;
-    for word in matches.get_strs("kept").unwrap_or(&[]) {
-        let (node, snapshot) = kept_of(io, log, word)?;
-        verdicts.judge_kept(io.alloc(), log, node, &snapshot, reads_of(matches))?;
+    verdicts.judge(alloc, log, tells_missed)?;
+    for kept in snapshots {
+        verdicts.judge_kept(alloc, log, kept.node, &kept.text, reads)?;
     }
-    let status = Status::refused_if(verdicts.is_broken);
-    io.finish(&verdicts.text)?;
-    Ok(status)
+    Ok(verdicts)
 }
 
-/// Appends what can be handed out again after a start from a snapshot. Returns whether something can.
-fn write_kept<'a>(
-    io: Io,
+/// Appends objects about the events and queries that can be handed out again after a program is started on a snapshot.
+/// Returns whether any event or query can be handed out again.
+fn write_kept(
+    alloc: Global,
     out: &mut Vec<u8>,
-    matches: &ArgMatches,
     log: &Log,
     places: &LogPlaces,
-    word: &'a str,
-) -> Result<bool, CommandError<'a>> {
-    let alloc = io.alloc();
-    let (node, snapshot) = kept_of(io, log, word)?;
-    let (first, second) = readers_of(&snapshot, reads_of(matches));
+    kept: &NodeSnapshot,
+    reads: StartedProgram,
+) -> Result<bool, AllocError> {
+    let NodeSnapshot { node, text } = kept;
+    let (first, second) = starts_of(text, reads);
     let has_left = second.is_some();
     let Start { reader, .. } = first;
-    let is_open = kept_objects(alloc, out, places, log, node, &snapshot, reader, has_left)?;
+    let is_open = kept_objects(alloc, out, places, log, node, text, reader, has_left)?;
     let Some(Start { reader, .. }) = second else {
         return Ok(is_open);
     };
-    let again = kept_objects(alloc, out, places, log, node, &snapshot, reader, has_left)?;
+    let again = kept_objects(alloc, out, places, log, node, text, reader, has_left)?;
     Ok(is_open || again)
 }
 
-/// The names of these logs, and how many lines come before each of them.
+/// Returns the name of each log in `files`, and the number of lines in all logs before it.
 fn names_of(alloc: Global, files: &[LogFile]) -> Result<Vec<LogName>, AllocError> {
     let mut names = Vec::new(alloc);
     for file in files {
@@ -157,33 +192,36 @@ fn names_of(alloc: Global, files: &[LogFile]) -> Result<Vec<LogName>, AllocError
     Ok(names)
 }
 
-/// Writes what judging a log finds as objects. The status is `Refused` if a promise is broken or a line is bad.
-fn judge_as_json<'a>(
-    io: Io,
-    matches: &ArgMatches<'a>,
+/// Judges a log, and returns the results as objects, together with the exit status. The status is `Refused` if a
+/// promise is broken or if a line is bad.
+pub(super) fn objects_of(
+    alloc: Global,
     log: &Log,
     files: &[LogFile],
-) -> CommandResult<'a> {
-    let mut out = Vec::new(io.alloc());
-    let logs = names_of(io.alloc(), files)?;
+    snapshots: &[NodeSnapshot],
+    reads: StartedProgram,
+) -> Result<(Vec<u8>, Status), AllocError> {
+    let mut out = Vec::new(alloc);
+    let logs = names_of(alloc, files)?;
     let places = LogPlaces {
         logs: &logs,
         dates: &log.dates,
     };
-    let mut is_broken = judgement_objects(io.alloc(), &mut out, &places, log)?;
-    for word in matches.get_strs("kept").unwrap_or(&[]) {
-        let is_open = write_kept(io, &mut out, matches, log, &places, word)?;
+    let mut is_broken = judgement_objects(alloc, &mut out, &places, log)?;
+    for kept in snapshots {
+        let is_open = write_kept(alloc, &mut out, log, &places, kept, reads)?;
         is_broken = is_broken || is_open;
     }
     let status = Status::refused_if(is_broken);
     status_object(&mut out, status as u64)?;
-    io.finish(&out)?;
-    Ok(status)
+    Ok((out, status))
 }
 
-/// Refuses a log without lines, which consists of the files `names`: each has at most one line, and it says nothing.
-fn check_log<'a>(log: &Log, names: &[&'a str]) -> Result<(), CommandError<'a>> {
+/// Refuses a log as empty if it contains nothing to judge, no bad line, and at most one line for each of the files
+/// `names`.
+pub(super) fn check_log<'a>(log: &Log, names: &[&'a str]) -> Result<(), CommandError<'a>> {
     let is_silent = log.events.is_empty() && log.queries.is_empty() && log.fired.is_empty();
+    let is_silent = is_silent && log.runs.is_empty();
     let files = names.len().max(1) as u64;
     if !is_silent || !log.bad.is_empty() || log.lines > files {
         return Ok(());
@@ -198,9 +236,21 @@ pub(super) fn run<'a>(io: Io, matches: &ArgMatches<'a>) -> CommandResult<'a> {
     let names = matches.get_strs("LOG").unwrap_or(&[]);
     let log = logs_of(io, names, &mut places)?;
     check_log(&log, names)?;
-    if is_json(matches)? {
-        judge_as_json(io, matches, &log, &places)
+    let is_json = is_json(matches)?;
+    let snapshots = snapshots_of(io, &log, matches.get_strs("kept").unwrap_or(&[]))?;
+    let (alloc, reads) = (io.alloc(), program_of(matches));
+    let (text, status) = if is_json {
+        objects_of(alloc, &log, &places, &snapshots, reads)?
     } else {
-        judge(io, matches, &log, &places)
-    }
+        let tells_missed = matches.get_flag("missed");
+        let verdicts = verdicts_of(alloc, &log, &places, &snapshots, reads, tells_missed)?;
+        let Verdicts {
+            text,
+            is_broken,
+            ..
+        } = verdicts;
+        (text, Status::refused_if(is_broken))
+    };
+    io.finish(&text)?;
+    Ok(status)
 }

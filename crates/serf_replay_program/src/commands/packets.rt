@@ -1,5 +1,6 @@
-//! `decode` prints the messages in packets that are given in hex. `encode` writes the packets of these texts, each of
-//! which ends with an empty line.
+//! The commands `decode` and `encode`. The command `decode` prints the messages in packets that are given in hex. The
+//! command `encode` reads the texts that `decode` prints, each of which ends with an empty line, and writes the
+//! packets.
 
 use crate::command_error::{CommandError, CommandResult, Status, stream_error};
 use crate::io::Io;
@@ -24,7 +25,7 @@ pub(crate) const DECODE: CommandRow = CommandRow {
     },
 };
 
-/// The options and arguments of `encode`: there are none.
+/// The command `encode`, which has no options and no arguments.
 pub(crate) const ENCODE: CommandRow = CommandRow {
     kind: CommandKind::Encode,
     name: "encode",
@@ -33,8 +34,8 @@ pub(crate) const ENCODE: CommandRow = CommandRow {
     rows: &[],
 };
 
-/// What is reported about a packet with this framing.
-fn said_of(framing: Framing) -> &'static str {
+/// Returns the sentence that the program prints about a packet that has the given framing.
+fn framing_message(framing: Framing) -> &'static str {
     match framing {
         Framing::Probe => "looks like a message of memberlist: a ping or an ack",
         Framing::Rumour => "looks like a message of memberlist: a node is suspect, alive or dead",
@@ -45,15 +46,15 @@ fn said_of(framing: Framing) -> &'static str {
     }
 }
 
-/// Reports framing on standard error, with one line for each packet.
+/// Reports on standard error which packets have framing, with one line for each of these packets.
 impl FramingNotes for Io<'_> {
     fn framed(&mut self, line: u64, framing: Framing) {
-        let said = said_of(framing);
+        let said = framing_message(framing);
         let _ = eprintln!(self.rt; "line {line} {said}");
     }
 }
 
-/// Writes the result for each line of standard input, as text or as objects.
+/// Decodes the packet on each line of standard input, and writes the result as text or as an object.
 fn decode_all<'a>(io: Io, is_json: bool) -> CommandResult<'a> {
     let (mut notes, mut source, mut output) = (io, io.source(None)?, io::writer(&io));
     let decoded = if is_json {
@@ -87,7 +88,7 @@ fn print_message<'a>(io: Io, packet: &[u8]) -> CommandResult<'a> {
     }
 }
 
-/// Reports why a word is not a packet in hex. If the word is the name of a file, a second line has the command that
+/// Reports why a word is not a packet in hex. If the word is the name of a file, a second line shows the command that
 /// decodes a file.
 fn tell_bad_hex(io: Io, text: &str) -> Status {
     let count = text.len();
@@ -105,8 +106,8 @@ fn tell_bad_hex(io: Io, text: &str) -> Status {
     Status::Refused
 }
 
-/// Prints the message in a packet that is given in hex. If the packet has framing, reports this on standard error
-/// first.
+/// Prints the message in a packet that is given in hex. If the packet has framing, the function first reports the
+/// framing on standard error.
 fn decode_word<'a>(io: Io, text: &str, is_json: bool) -> CommandResult<'a> {
     let packet = match hex::decode(io.alloc(), text) {
         Ok(packet) => packet,
@@ -114,7 +115,7 @@ fn decode_word<'a>(io: Io, text: &str, is_json: bool) -> CommandResult<'a> {
         Err(_) => return Ok(tell_bad_hex(io, text)),
     };
     if let Some(framing) = framing_of(&packet) {
-        let said = said_of(framing);
+        let said = framing_message(framing);
         let _ = eprintln!(io.rt; "the packet {said}");
     }
     if is_json {
@@ -124,7 +125,7 @@ fn decode_word<'a>(io: Io, text: &str, is_json: bool) -> CommandResult<'a> {
     }
 }
 
-/// Prints the message in the packet that is given, or in each packet on standard input.
+/// Prints the message in the packet that the command line contains, or in each packet on standard input.
 pub(super) fn decode<'a>(io: Io, matches: &ArgMatches<'a>) -> CommandResult<'a> {
     let is_json = is_json(matches)?;
     match matches.get_str("HEX") {
@@ -133,8 +134,8 @@ pub(super) fn decode<'a>(io: Io, matches: &ArgMatches<'a>) -> CommandResult<'a> 
     }
 }
 
-/// Writes the result for each text on standard input. If the end of the input cuts off the last text, reports this on
-/// standard error.
+/// Encodes each text on standard input, and writes the resulting packets. If the input ends in the middle of the last
+/// text, the function reports this on standard error.
 pub(super) fn encode<'a>(io: Io, _matches: &ArgMatches<'a>) -> CommandResult<'a> {
     let mut source = io.source(None)?;
     let blocks = match encode_blocks(io.alloc(), &mut source, &mut io::writer(&io)) {

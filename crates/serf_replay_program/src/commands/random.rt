@@ -1,4 +1,4 @@
-//! `random`: a schedule from a seed.
+//! The command `random` prints the schedule of a seed.
 
 use crate::command_error::{CommandError, CommandResult};
 use crate::io::Io;
@@ -39,8 +39,8 @@ pub(crate) const COMMAND: CommandRow = CommandRow {
     },
 };
 
-/// The defaults. The seed then determines the number of agents, and in schedules of rounds there is no limit on
-/// actions.
+/// The values that are used for options that the command line leaves out. If the number of agents is left out, the seed
+/// determines it. If the number of actions is left out, schedules of rounds have no limit on actions.
 const LEFT_OUT: RandomOptions = RandomOptions {
     seed: 0,
     kind: Kind::Mixed,
@@ -51,7 +51,7 @@ const LEFT_OUT: RandomOptions = RandomOptions {
     rounds: 10,
 };
 
-/// The kind that the command line names, or `None` if there is no kind with this name.
+/// Returns the kind that the command line names, or `None` if there is no kind with that name.
 pub(super) fn kind_of(matches: &ArgMatches) -> Option<Kind> {
     match matches.get_str("kind") {
         Some(name) => Kind::of_name(name.as_bytes()),
@@ -59,9 +59,9 @@ pub(super) fn kind_of(matches: &ArgMatches) -> Option<Kind> {
     }
 }
 
-/// The options of the command line, with this seed and this kind. The fanout, the losses and the number of rounds are
-/// the defaults.
-pub(super) fn ask_with<'a>(
+/// Returns the options that the command line selects, with the given seed and kind. The fanout, the losses and the
+/// number of rounds have their default values.
+pub(super) fn options_with<'a>(
     matches: &ArgMatches,
     seed: u64,
     kind: Kind,
@@ -84,7 +84,7 @@ pub(super) fn ask_with<'a>(
     })
 }
 
-/// Refuses an option of rounds for any other kind.
+/// If the schedule isn't of the kind `rounds`, refuses the options for rounds.
 fn check_rounds<'a>(matches: &ArgMatches, kind: Kind) -> Result<(), CommandError<'a>> {
     for name in ["fanout", "loss", "rounds"] {
         if !kind.is_rounds() && matches.contains_id(name) {
@@ -94,10 +94,10 @@ fn check_rounds<'a>(matches: &ArgMatches, kind: Kind) -> Result<(), CommandError
     Ok(())
 }
 
-/// The options of the command line, with this seed.
-fn ask_of<'a>(matches: &ArgMatches, seed: u64) -> Result<RandomOptions, CommandError<'a>> {
+/// Returns the options that the command line selects, with the given seed.
+fn options_of<'a>(matches: &ArgMatches, seed: u64) -> Result<RandomOptions, CommandError<'a>> {
     let kind = kind_of(matches).ok_or(bad_word("kind", KINDS))?;
-    let ask = ask_with(matches, seed, kind)?;
+    let ask = options_with(matches, seed, kind)?;
     check_rounds(matches, kind)?;
     Ok(RandomOptions {
         fanout: matches.get_one::<u64>("fanout").unwrap_or(ask.fanout),
@@ -107,17 +107,17 @@ fn ask_of<'a>(matches: &ArgMatches, seed: u64) -> Result<RandomOptions, CommandE
     })
 }
 
-/// The rules that the command line selects.
+/// Returns the rules that the command line selects.
 pub(super) fn rules_of<'a>(matches: &ArgMatches) -> Result<Rules, CommandError<'a>> {
     let rules = [("own", Rules::Own), ("serf", Rules::Serf)];
     chosen(matches, "rules", &rules, "serf or own")
 }
 
-/// If the text of a schedule of rounds has less room left than this, it may have ended before its last round, because
-/// every line of a schedule of rounds is shorter.
+/// A number of bytes that is larger than the length of any line in a schedule of rounds. If the text of a schedule of
+/// rounds has less room left than this number of bytes, the schedule may have ended before its last round.
 const ROOM: usize = 4096;
 
-/// The text of the random schedule with the options `ask`, whose turns keep to `rules`.
+/// Returns the text of the random schedule that has the options `ask` and whose turns keep to `rules`.
 fn text_of<'a>(io: Io, ask: &RandomOptions, rules: Rules) -> Result<Vec<u8>, CommandError<'a>> {
     let mut progress = Progress::of(io, progress::ACTIONS);
     let made = match rules {
@@ -127,11 +127,11 @@ fn text_of<'a>(io: Io, ask: &RandomOptions, rules: Rules) -> Result<Vec<u8>, Com
     Ok(made?.text)
 }
 
-/// Writes the random schedule that the command line describes. Its turns keep to the rules that the command line
-/// selects.
+/// Writes the random schedule that the command line describes. The turns of this schedule keep to the rules that the
+/// command line selects.
 pub(super) fn run<'a>(io: Io, matches: &ArgMatches<'a>) -> CommandResult<'a> {
     let seed = matches.get_one::<u64>("SEED");
-    let ask = ask_of(matches, seed.ok_or(bad_word("SEED", "a number"))?)?;
+    let ask = options_of(matches, seed.ok_or(bad_word("SEED", "a number"))?)?;
     let text = text_of(io, &ask, rules_of(matches)?)?;
     if ask.kind.is_rounds() && MAX_SCHEDULE_BYTES.saturating_sub(text.len()) < ROOM {
         let _ = eprintln!(io.rt;

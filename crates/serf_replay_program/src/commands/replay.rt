@@ -1,5 +1,5 @@
-//! `replay`: the trace of a schedule, at the end or line by line, or its summary, with one line for each thing that was
-//! counted.
+//! The command `replay` prints the trace of a schedule, either after the whole run or line by line, or it prints a
+//! summary of the run.
 
 use crate::agent_source::AgentSource;
 use crate::command_error::{CommandError, CommandResult, Status};
@@ -34,21 +34,21 @@ pub(crate) const COMMAND: CommandRow = CommandRow {
     },
 };
 
-/// How a summary is written. In each line, the placeholders `~` stand for what was counted, how often it was counted,
-/// and the last action at which it was.
+/// The form of a summary. In each line, the placeholders `~` are replaced with the item, its count, and the last action
+/// at which the item occurred.
 #[derive(Clone, Copy)]
 struct SummaryForm {
     actions: &'static [u8],
     answer: &'static [u8],
     agent: &'static [u8],
     event: &'static [u8],
-    /// The line for an agent to which nothing was handed out. If it is `None`, these agents have no line, and the
-    /// others are in the order in which something was first handed out to them. Otherwise all agents are in the order
-    /// of their numbers.
+    /// The line for an agent that was handed nothing, or `None` if these agents have no line. If idle agents have no
+    /// line, the other agents are in the order in which they were first handed an event. If idle agents have a line,
+    /// all agents are in the order of their numbers.
     idle_agent: Option<&'static [u8]>,
 }
 
-/// For a person.
+/// The form of a summary for people.
 const TEXT: SummaryForm = SummaryForm {
     actions: b"actions ~\n",
     answer: b"answered ~: ~, last at action ~\n",
@@ -57,7 +57,7 @@ const TEXT: SummaryForm = SummaryForm {
     idle_agent: None,
 };
 
-/// As a table.
+/// The form of a summary as a table (CSV).
 const CSV: SummaryForm = SummaryForm {
     actions: b"what,answer,agent,time,name,payload,times,last\nactions,,,,,,~,\n",
     answer: b"answer,~,,,,,~,~\n",
@@ -66,7 +66,8 @@ const CSV: SummaryForm = SummaryForm {
     idle_agent: Some(b"agent,,~,,,,0,\n"),
 };
 
-/// Appends a line for each agent, or only for each agent to which something was handed out.
+/// Appends a line for each agent. If `form` has no line for idle agents, the function appends lines only for agents
+/// that were handed an event.
 fn write_agents(
     out: &mut Vec<u8>,
     form: &SummaryForm,
@@ -91,7 +92,7 @@ fn write_agents(
     Ok(())
 }
 
-/// The text of a summary.
+/// Returns the text of a summary in the given form.
 fn summary_text(
     alloc: Global,
     form: &SummaryForm,
@@ -113,7 +114,7 @@ fn summary_text(
     Ok(out)
 }
 
-/// The member with the name of agent number `agent`, if it is known.
+/// Returns the JSON member that contains the name of agent number `agent`, or an absent member if the name isn't known.
 fn name_member(names: &[Bytes], agent: u64) -> Member<'_> {
     match names.get(agent as usize) {
         Some(name) => Member::Bytes(b"agent_name", name.as_slice()),
@@ -143,7 +144,7 @@ fn write_agent_objects(
     Ok(())
 }
 
-/// The member with the code of an answer, if it has one.
+/// Returns the JSON member that contains the code of an answer, or an absent member if the answer has no code.
 fn code_member(code: Option<&[u8]>) -> Member<'_> {
     match code {
         Some(code) => Member::Text(b"code", code),
@@ -151,7 +152,7 @@ fn code_member(code: Option<&[u8]>) -> Member<'_> {
     }
 }
 
-/// Appends an object for each answer, which is split into its word and its code.
+/// Appends an object for each answer, in which the answer is split into its word and its code.
 fn write_answer_objects(out: &mut Vec<u8>, summary: &Summary) -> Result<(), AllocError> {
     for (label, frequency) in summary.answers.iter() {
         let (word, code) = split_once(label, b' ');
@@ -166,7 +167,7 @@ fn write_answer_objects(out: &mut Vec<u8>, summary: &Summary) -> Result<(), Allo
     Ok(())
 }
 
-/// The objects of a summary. `names` are the names of the agents.
+/// Returns the objects of a summary. The argument `names` contains the names of the agents.
 fn summary_objects(
     alloc: Global,
     summary: &Summary,
@@ -190,7 +191,7 @@ fn summary_objects(
     Ok(out)
 }
 
-/// How the result of a run is written.
+/// The form in which the result of a run is written.
 #[derive(Clone, Copy)]
 enum RunForm {
     Trace,
@@ -198,14 +199,14 @@ enum RunForm {
     Json,
 }
 
-/// How a summary is written.
+/// The form in which a summary is written: lines of text, or JSON objects.
 #[derive(Clone, Copy)]
 enum TotalForm {
     Lines(SummaryForm),
     Json,
 }
 
-/// The names of these agents.
+/// Returns the names of the agents in `agents`.
 fn names_of(alloc: Global, agents: &[Config]) -> Result<Vec<Bytes>, AllocError> {
     let mut names = Vec::new(alloc);
     for agent in agents {
@@ -214,7 +215,7 @@ fn names_of(alloc: Global, agents: &[Config]) -> Result<Vec<Bytes>, AllocError> 
     Ok(names)
 }
 
-/// The summary of the run of the schedule in a file, or on standard input, and the names of its agents.
+/// Runs the schedule in a file, or on standard input. Returns the summary of the run and the names of the agents.
 fn summary_of<'a>(
     io: Io,
     matches: &ArgMatches<'a>,
@@ -232,15 +233,15 @@ fn summary_of<'a>(
     Ok((summary, names))
 }
 
-/// All actions, which are written if the result of a run is.
+/// The range of all actions, which is used when the result of a whole run is written.
 const ALL: Range = Range {
     agent: None,
     from: 1,
     to: u64::MAX,
 };
 
-/// Writes the run of the schedule in a file, or on standard input, line by line. A bad line ends it, after the text of
-/// the lines before was written.
+/// Runs the schedule in a file, or on standard input, and writes the run line by line. If a line is bad, the function
+/// writes the text of all lines before it, and then stops.
 fn stream_run<'a>(io: Io, matches: &ArgMatches<'a>, form: RunForm) -> CommandResult<'a> {
     let (mut source, mut output) = (io.schedule(matches)?, io::writer(&io));
     match form {
@@ -253,7 +254,7 @@ fn stream_run<'a>(io: Io, matches: &ArgMatches<'a>, form: RunForm) -> CommandRes
     Ok(Status::Done)
 }
 
-/// Writes the run of the schedule in a file, or on standard input. The whole schedule is read first.
+/// Reads the whole schedule in a file, or on standard input, and then runs it and writes the run.
 fn write_run<'a>(io: Io, matches: &ArgMatches<'a>, form: RunForm) -> CommandResult<'a> {
     let (mut source, mut output) = (io.schedule(matches)?, io::writer(&io));
     let (alloc, mut progress) = (io.alloc(), Progress::of(io, ACTIONS));
@@ -275,7 +276,7 @@ fn write_run<'a>(io: Io, matches: &ArgMatches<'a>, form: RunForm) -> CommandResu
     Ok(Status::Done)
 }
 
-/// Writes the summary of the run of the schedule in a file, or on standard input.
+/// Runs the schedule in a file, or on standard input, and writes a summary of the run.
 fn write_summary<'a>(io: Io, matches: &ArgMatches<'a>) -> CommandResult<'a> {
     let forms = [
         ("text", TotalForm::Lines(TEXT)),
@@ -298,7 +299,7 @@ fn write_summary<'a>(io: Io, matches: &ArgMatches<'a>) -> CommandResult<'a> {
     io.finish(&text?)
 }
 
-/// Runs the schedule in a file, or on standard input.
+/// Runs the schedule in a file, or on standard input, and writes the result in the form that the command line selects.
 pub(super) fn run<'a>(io: Io, matches: &ArgMatches<'a>) -> CommandResult<'a> {
     if matches.get_flag("summary") {
         return write_summary(io, matches);

@@ -1,4 +1,4 @@
-//! `write`: converts a schedule that a person wrote to the words that `replay` reads.
+//! The command `write` converts a schedule that a person wrote into the form that `replay` reads.
 
 use crate::command_error::{CommandError, CommandResult};
 use crate::io::Io;
@@ -19,13 +19,19 @@ pub(crate) const COMMAND: CommandRow = CommandRow {
     },
 };
 
-/// Writes the schedule for the text in a file, or on standard input. For a bad line, reports which word is wrong and
-/// what is allowed in its place.
-pub(super) fn run<'a>(io: Io, matches: &ArgMatches<'a>) -> CommandResult<'a> {
-    let text = io.source(matches.get_str("FILE"))?.text()?;
+/// Converts the text in a file, or on standard input, to a schedule, and returns the schedule. If a line is bad, the
+/// function reports which word is wrong, and which words are allowed in its place.
+pub(super) fn schedule_of<'a>(io: Io, file: Option<&'a str>) -> Result<Vec<u8>, CommandError<'a>> {
+    let text = io.source(file)?.text()?;
     match write(io.alloc(), &text, &mut Progress::of(io, BYTES)) {
-        Ok(schedule) => io.finish(&schedule),
+        Ok(schedule) => Ok(schedule),
         Err(WriteError::BadLine { line, error }) => Err(CommandError::BadWord(line, error)),
         Err(WriteError::OutOfMemory) => Err(CommandError::NoMemory),
     }
+}
+
+/// Converts the text in a file, or on standard input, to a schedule, and writes the schedule to standard output.
+pub(super) fn run<'a>(io: Io, matches: &ArgMatches<'a>) -> CommandResult<'a> {
+    let schedule = schedule_of(io, matches.get_str("FILE"))?;
+    io.finish(&schedule)
 }

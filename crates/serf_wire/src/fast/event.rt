@@ -14,7 +14,7 @@ use crate::laws::laws_below;
 use crate::message::UserEvent;
 use serf_lamport::Time;
 
-/// The values of a user event's keys that were found so far.
+/// The values that were found so far for the keys of a user event.
 #[derive(Clone, Copy)]
 struct EventFields<'a> {
     time: Option<u64>,
@@ -23,7 +23,7 @@ struct EventFields<'a> {
     coalesce: Option<bool>,
 }
 
-/// Adds the pair at the start of `bytes` to `found`, and returns the bytes after the pair.
+/// Reads the pair at the start of `bytes` and adds it to `found`. Returns the bytes after the pair.
 #[inline(always)]
 fn read_pair<'a>(found: &mut EventFields<'a>, bytes: &'a [u8]) -> Option<&'a [u8]>
     ensures { IfSome result (λ rest. Extends IsEventSoFar found.old found.new bytes.now rest.now) }
@@ -53,7 +53,7 @@ fn read_pair<'a>(found: &mut EventFields<'a>, bytes: &'a [u8]) -> Option<&'a [u8
     }
 }
 
-/// The values in the first `count` pairs of `bytes`, and the bytes after these pairs.
+/// Reads the first `count` pairs of `bytes`. Returns their values, and the bytes after these pairs.
 #[inline(always)]
 fn read_pairs(count: u8, bytes: &[u8]) -> Option<(EventFields<'_>, &[u8])>
     ensures { IfSome result (λ x. IsReadSoFar IsEventSoFar x.0 count bytes.now x.1.now) }
@@ -75,8 +75,8 @@ fn read_pairs(count: u8, bytes: &[u8]) -> Option<(EventFields<'_>, &[u8])>
     Some((found, rest))
 }
 
-/// The user event with the values in `found`, if its time is below 2^64 - 1. The value of a missing key is
-/// zero or empty.
+/// Builds the user event from the values in `found`. If a key is missing, its value is zero or empty. Returns
+/// `None` if the time is 2^64 - 1.
 fn event_of<'a>(found: &EventFields<'a>) -> Option<UserEvent<'a>>
     ensures event { IfSome result (λ e. event_said e ≡ found_event found.now) }
     ensures time { IfSome result (λ e. unwrap_or found.now.time 0 < max_clock) }
@@ -105,7 +105,7 @@ fn event_of<'a>(found: &EventFields<'a>) -> Option<UserEvent<'a>>
     })
 }
 
-/// The user event whose map `bytes` spell, if their spelling is compact.
+/// Returns the user event whose map `bytes` spell, or `None` if their spelling isn't compact.
 #[inline(always)]
 pub fn read_user_event(bytes: &[u8]) -> Option<UserEvent<'_>>
     ensures { IfSome result (λ e. SpellsMap types.UserEvent (user_event (event_said e)) bytes.now) }

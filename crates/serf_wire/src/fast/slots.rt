@@ -1,5 +1,5 @@
-//! Reads the slots of an event buffer. Each slot is nil or a map of exactly a time and its events, and each
-//! event is a map of exactly a name and a payload.
+//! Reads the slots of an event buffer. Each slot is nil, or a map with exactly a time and its events. Each
+//! event is a map with exactly a name and a payload.
 
 ghost use Rattle.std.specs.Prelude.{◌≡◌, ◌∷◌, [], codes, None, IfNone, IfSome};
 ghost use Rattle.std.specs.Option.{option_map};
@@ -13,14 +13,16 @@ use crate::laws::laws_below;
 use crate::lists::{EventView, EventViews, SlotView, SlotViews};
 use serf_lamport::Time;
 
-/// The events of a compact list: the only event, which was read, or the events that haven't been read yet.
+/// The events of a compact list. If there is only one event, it has been read; otherwise the events haven't
+/// been read yet.
 #[derive(Clone, Copy)]
 pub enum FoundEvents<'a> {
     One(EventView<'a>),
     Many(EventViews<'a>),
 }
 
-/// The name after its key at the start of `bytes`, and the bytes after the name.
+/// Reads the key `Name` and the name after it at the start of `bytes`. Returns the name and the bytes after
+/// it.
 #[inline(always)]
 fn read_name(bytes: &[u8]) -> Option<(&[u8], &[u8])>
     ensures { IfSome result (λ x. ReadsPair 9 text (codes "Name") x.0.now bytes.now x.1.now) }
@@ -31,7 +33,8 @@ fn read_name(bytes: &[u8]) -> Option<(&[u8], &[u8])>
     read_text(value)
 }
 
-/// The payload after its key at the start of `bytes`, and the bytes after the payload.
+/// Reads the key `Payload` and the payload after it at the start of `bytes`. Returns the payload and the
+/// bytes after it.
 #[inline(always)]
 fn read_payload(bytes: &[u8]) -> Option<(&[u8], &[u8])>
     ensures { IfSome result (λ x. ReadsPair 9 text (codes "Payload") x.0.now bytes.now x.1.now) }
@@ -42,7 +45,8 @@ fn read_payload(bytes: &[u8]) -> Option<(&[u8], &[u8])>
     read_text(value)
 }
 
-/// The event at the start of `bytes`, a map of two pairs (0x82), and the bytes after it.
+/// Reads an event, which is a map of two pairs (0x82), at the start of `bytes`. Returns the event and the
+/// bytes after it.
 #[inline(always)]
 pub fn read_event(bytes: &[u8]) -> Option<(EventView<'_>, &[u8])>
     ensures { IfSome result (λ x. ReadsIn 8 event_body (event_of_view x.0) bytes.now x.1.now) }
@@ -56,7 +60,7 @@ pub fn read_event(bytes: &[u8]) -> Option<(EventView<'_>, &[u8])>
     Some((EventView { name, payload }, rest))
 }
 
-/// The bytes after `count` events at the start of `bytes`.
+/// Skips `count` events at the start of `bytes`, and returns the bytes after them.
 fn skip_events(count: u64, bytes: &[u8]) -> Option<&[u8]>
     ensures { IfSome result (λ rest. AreItems 8 event_body count bytes.now rest.now) }
 {
@@ -70,7 +74,7 @@ fn skip_events(count: u64, bytes: &[u8]) -> Option<&[u8]>
     Some(rest)
 }
 
-/// The bytes after a list of events at the start of `bytes`.
+/// Skips a list of events at the start of `bytes`, and returns the bytes after it.
 #[inline(always)]
 fn skip_event_list(bytes: &[u8]) -> Option<&[u8]>
     ensures { IfSome result (λ rest. Spans 7 (list event_body) bytes.now rest.now) }
@@ -80,7 +84,8 @@ fn skip_event_list(bytes: &[u8]) -> Option<&[u8]>
     skip_events(count, items)
 }
 
-/// The event of a list of exactly one event (0x91) at the start of `bytes`, and the bytes after it.
+/// Reads a list of exactly one event (0x91) at the start of `bytes`. Returns the event and the bytes after
+/// it.
 #[inline(always)]
 fn read_only_event(bytes: &[u8]) -> Option<(EventView<'_>, &[u8])>
     ensures { IfSome result (λ x.
@@ -93,8 +98,9 @@ fn read_only_event(bytes: &[u8]) -> Option<(EventView<'_>, &[u8])>
     read_event(event)
 }
 
-/// A list of any number of events at the start of `bytes`, and the bytes after it. This is a separate
-/// function, so that the code that reads a slot with one event is small enough to be inlined.
+/// Reads a list of any number of events at the start of `bytes`. Returns the list and the bytes after it.
+/// This is a separate function, so that the code that reads a slot with one event is small enough to be
+/// inlined.
 #[inline(never)]
 fn read_many_events(bytes: &[u8]) -> Option<(EventViews<'_>, &[u8])>
     ensures { IfSome result (λ x. ReadsIn 7 (list event_body) (events_left x.0) bytes.now x.1.now) }
@@ -104,7 +110,7 @@ fn read_many_events(bytes: &[u8]) -> Option<(EventViews<'_>, &[u8])>
     Some((EventViews::of(Some(list)), rest))
 }
 
-/// The list of events at the start of `bytes`, and the bytes after it.
+/// Reads a list of events at the start of `bytes`. Returns the list and the bytes after it.
 #[inline(always)]
 fn read_event_list(bytes: &[u8]) -> Option<(FoundEvents<'_>, &[u8])>
     ensures { IfSome result (λ x.
@@ -119,7 +125,8 @@ fn read_event_list(bytes: &[u8]) -> Option<(FoundEvents<'_>, &[u8])>
     }
 }
 
-/// The list of events after its key at the start of `bytes`, and the bytes after the list.
+/// Reads the key of a slot's events and the list after it at the start of `bytes`. Returns the list and the
+/// bytes after it.
 #[inline(always)]
 fn read_events(bytes: &[u8]) -> Option<(FoundEvents<'_>, &[u8])>
     ensures { IfSome result (λ x.
@@ -131,7 +138,8 @@ fn read_events(bytes: &[u8]) -> Option<(FoundEvents<'_>, &[u8])>
     read_event_list(value)
 }
 
-/// The time after its key at the start of `bytes`, and the bytes after the time.
+/// Reads the key of a slot's time and the time after it at the start of `bytes`. Returns the time and the
+/// bytes after it.
 #[inline(always)]
 fn read_time(bytes: &[u8]) -> Option<(u64, &[u8])>
     ensures { IfSome result (λ x. ReadsPair 7 time (codes "LTime") x.0 bytes.now x.1.now) }
@@ -146,8 +154,8 @@ fn read_time(bytes: &[u8]) -> Option<(u64, &[u8])>
     Some((number, rest))
 }
 
-/// If `fields` begin with the time, returns it and the bytes after it. Otherwise returns `None` and all of
-/// `fields`.
+/// If `fields` begin with the slot's time, the call returns this time and the bytes after it. Otherwise
+/// returns `None` and all of `fields`.
 #[inline(always)]
 fn read_early_time(fields: &[u8]) -> (Option<u64>, &[u8])
     ensures early { IfSome result.0 (λ t.
@@ -160,8 +168,8 @@ fn read_early_time(fields: &[u8]) -> (Option<u64>, &[u8])
     }
 }
 
-/// The time and the events of a slot, and the bytes after the slot. `fields` are the bytes after the map's
-/// header. Our encoder writes the time first, but Serf writes the events first.
+/// Reads a slot from `fields`, which are the bytes after the map's header. Returns the slot's time, its
+/// events, and the bytes after the slot. Our encoder writes the time first, but Serf writes the events first.
 #[inline(always)]
 fn read_fields(fields: &[u8]) -> Option<(u64, FoundEvents<'_>, &[u8])>
     ensures { IfSome result (λ x.
@@ -181,8 +189,8 @@ fn read_fields(fields: &[u8]) -> Option<(u64, FoundEvents<'_>, &[u8])>
     }
 }
 
-/// The time and the events of a slot that is a map of two pairs (0x82) at the start of `bytes`, and the bytes
-/// after it.
+/// Reads a slot that is a map of two pairs (0x82) at the start of `bytes`. Returns the slot's time, its
+/// events, and the bytes after the slot.
 #[inline(always)]
 fn read_held(bytes: &[u8]) -> Option<(u64, FoundEvents<'_>, &[u8])>
     ensures { IfSome result (λ x. ReadsIn 6 slot (held x.0 (events_found x.1)) bytes.now x.2.now) }
@@ -193,7 +201,7 @@ fn read_held(bytes: &[u8]) -> Option<(u64, FoundEvents<'_>, &[u8])>
     read_fields(fields)
 }
 
-/// The slot with this `time` and these `events`.
+/// Returns the slot with this `time` and these `events`.
 #[inline(always)]
 fn slot_of<'a>(time: Time, events: FoundEvents<'a>) -> SlotView<'a>
     ensures { slot_of_view result ≡ held time (events_found events.entry) }
@@ -204,7 +212,7 @@ fn slot_of<'a>(time: Time, events: FoundEvents<'a>) -> SlotView<'a>
     }
 }
 
-/// The slot at the start of `bytes`, and the bytes after it. Nil is the empty slot.
+/// Reads a slot at the start of `bytes`; nil is the empty slot. Returns the slot and the bytes after it.
 #[inline(always)]
 pub fn read_slot(bytes: &[u8]) -> Option<(SlotView<'_>, &[u8])>
     ensures { IfSome result (λ x. ReadsIn 6 slot (slot_of_view x.0) bytes.now x.1.now) }
@@ -221,7 +229,7 @@ pub fn read_slot(bytes: &[u8]) -> Option<(SlotView<'_>, &[u8])>
     }
 }
 
-/// The bytes after `count` slots at the start of `bytes`.
+/// Skips `count` slots at the start of `bytes`, and returns the bytes after them.
 fn skip_slots(count: u64, bytes: &[u8]) -> Option<&[u8]>
     ensures { IfSome result (λ rest. AreItems 6 slot count bytes.now rest.now) }
 {
@@ -235,7 +243,7 @@ fn skip_slots(count: u64, bytes: &[u8]) -> Option<&[u8]>
     Some(rest)
 }
 
-/// The bytes after a list of slots, or nil, at the start of `bytes`.
+/// Skips a list of slots or a nil at the start of `bytes`, and returns the bytes after it.
 fn skip_slot_list(bytes: &[u8]) -> Option<&[u8]>
     ensures { IfSome result (λ rest. Spans 5 (list slot) bytes.now rest.now) }
 {
@@ -249,7 +257,7 @@ fn skip_slot_list(bytes: &[u8]) -> Option<&[u8]>
     }
 }
 
-/// The list of slots at the start of `bytes`, and the bytes after it.
+/// Reads a list of slots at the start of `bytes`. Returns the list and the bytes after it.
 fn read_slots(bytes: &[u8]) -> Option<(SlotViews<'_>, &[u8])>
     ensures { IfSome result (λ x. ReadsIn 5 (list slot) (slots_left x.0) bytes.now x.1.now) }
 {
@@ -258,7 +266,7 @@ fn read_slots(bytes: &[u8]) -> Option<(SlotViews<'_>, &[u8])>
     Some((SlotViews::of(Some(list)), rest))
 }
 
-/// Reads slots as `read_slots` does, for a key that may appear only once: returns `None` if `found` already
+/// Reads slots as `read_slots` does, for a key that may appear only once. Returns `None` if `found` already
 /// has the slots of an earlier pair.
 pub fn once_slots<'a>(
     found: Option<SlotViews<'a>>,

@@ -16,7 +16,7 @@ use crate::laws::laws_below;
 use crate::lists::{SlotViews, StatusTimes, Texts};
 use crate::message::PushPull;
 
-/// The values of a push/pull's keys that were found so far.
+/// The values that were found so far for the keys of a push/pull.
 #[derive(Clone, Copy)]
 struct StateFields<'a> {
     member_clock: Option<u64>,
@@ -27,7 +27,7 @@ struct StateFields<'a> {
     query_clock: Option<u64>,
 }
 
-/// Adds the pair at the start of `bytes` to `found`, and returns the bytes after the pair.
+/// Reads the pair at the start of `bytes` and adds it to `found`. Returns the bytes after the pair.
 fn read_pair<'a>(found: &mut StateFields<'a>, bytes: &'a [u8]) -> Option<&'a [u8]>
     ensures { IfSome result (λ rest. Extends IsStateSoFar found.old found.new bytes.now rest.now) }
 {
@@ -66,8 +66,8 @@ fn read_pair<'a>(found: &mut StateFields<'a>, bytes: &'a [u8]) -> Option<&'a [u8
     }
 }
 
-/// The values in the first `count` pairs of `bytes`, and the bytes after these pairs. This is a separate
-/// function, so that it doesn't slow down the readers of smaller messages.
+/// Reads the first `count` pairs of `bytes`. Returns their values, and the bytes after these pairs. This is a
+/// separate function, so that it doesn't slow down the readers of smaller messages.
 #[inline(never)]
 fn read_pairs(count: u8, bytes: &[u8]) -> Option<(StateFields<'_>, &[u8])>
     ensures { IfSome result (λ x. IsReadSoFar IsStateSoFar x.0 count bytes.now x.1.now) }
@@ -91,7 +91,7 @@ fn read_pairs(count: u8, bytes: &[u8]) -> Option<(StateFields<'_>, &[u8])>
     Some((found, rest))
 }
 
-/// The status times in `found`, or no status times.
+/// Returns the status times in `found`, or no status times if none were found.
 fn or_no_status<'a>(found: Option<StatusTimes<'a>>) -> StatusTimes<'a>
     ensures { status_left result ≡ unwrap_or (option_map status_left found.entry) [] }
 {
@@ -101,7 +101,7 @@ fn or_no_status<'a>(found: Option<StatusTimes<'a>>) -> StatusTimes<'a>
     }
 }
 
-/// The slots in `found`, or no slots.
+/// Returns the slots in `found`, or no slots if none were found.
 fn or_no_slots<'a>(found: Option<SlotViews<'a>>) -> SlotViews<'a>
     ensures { slots_left result ≡ unwrap_or (option_map slots_left found.entry) [] }
 {
@@ -111,7 +111,7 @@ fn or_no_slots<'a>(found: Option<SlotViews<'a>>) -> SlotViews<'a>
     }
 }
 
-/// The push/pull with the values in `found`. The value of a missing key is zero or empty.
+/// Builds the push/pull from the values in `found`. If a key is missing, its value is zero or empty.
 fn state_of<'a>(found: &StateFields<'a>) -> PushPull<'a>
     ensures { push_pull_said result ≡ found_state found.now }
 {
@@ -125,7 +125,7 @@ fn state_of<'a>(found: &StateFields<'a>) -> PushPull<'a>
     }
 }
 
-/// The push/pull whose map `bytes` spell, if their spelling is compact.
+/// Returns the push/pull whose map `bytes` spell, or `None` if their spelling isn't compact.
 #[inline(never)]
 pub fn read_push_pull(bytes: &[u8]) -> Option<PushPull<'_>>
     ensures { IfSome result (λ m.

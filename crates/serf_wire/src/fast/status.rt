@@ -1,4 +1,5 @@
-//! Reads the members' status times of a push/pull: a map of names and times, in a compact spelling.
+//! Reads the status times of a push/pull, which are a map from members' names to times, in a compact
+//! spelling.
 
 ghost use Rattle.std.specs.Prelude.{◌≡◌, None, Ok, IfSome};
 ghost use Rattle.std.specs.Option.{option_map};
@@ -12,7 +13,7 @@ use crate::compact::{read_long_map_head, read_number, read_raw, skip_nil, view_b
 use crate::laws::laws_below;
 use crate::lists::StatusTimes;
 
-/// The bytes after a name and its time at the start of `bytes`.
+/// Skips a name and its time at the start of `bytes`, and returns the bytes after them.
 #[inline(always)]
 fn skip_status_time(bytes: &[u8]) -> Option<&[u8]>
     ensures { IfSome result (λ rest. SpansStatusTime bytes.now rest.now) }
@@ -22,7 +23,7 @@ fn skip_status_time(bytes: &[u8]) -> Option<&[u8]>
     Some(rest)
 }
 
-/// The bytes after `count` names with their times at the start of `bytes`.
+/// Skips `count` names with their times at the start of `bytes`, and returns the bytes after them.
 fn skip_status_times(count: u64, bytes: &[u8]) -> Option<&[u8]>
     ensures { IfSome result (λ rest. AreParts status_part_bytes count bytes.now rest.now) }
 {
@@ -36,7 +37,7 @@ fn skip_status_times(count: u64, bytes: &[u8]) -> Option<&[u8]>
     Some(rest)
 }
 
-/// The bytes after a map of names and times, or nil, at the start of `bytes`.
+/// Skips a map of names and times, or a nil, at the start of `bytes`. Returns the bytes after it.
 fn skip_status(bytes: &[u8]) -> Option<&[u8]>
     ensures { IfSome result (λ rest. Spans 8 status bytes.now rest.now) }
 {
@@ -50,7 +51,7 @@ fn skip_status(bytes: &[u8]) -> Option<&[u8]>
     }
 }
 
-/// The names with their times at the start of `bytes`, and the bytes after them.
+/// Reads a map of names and times at the start of `bytes`. Returns the map and the bytes after it.
 fn read_status(bytes: &[u8]) -> Option<(StatusTimes<'_>, &[u8])>
     ensures { IfSome result (λ x. ReadsIn 8 status (status_left x.0) bytes.now x.1.now) }
 {
@@ -59,7 +60,7 @@ fn read_status(bytes: &[u8]) -> Option<(StatusTimes<'_>, &[u8])>
     Some((StatusTimes::of(Some(map)), rest))
 }
 
-/// Reads status times as `read_status` does, for a key that may appear only once: returns `None` if `found`
+/// Reads status times as `read_status` does, for a key that may appear only once. Returns `None` if `found`
 /// already has the status times of an earlier pair.
 pub fn once_status<'a>(
     found: Option<StatusTimes<'a>>,

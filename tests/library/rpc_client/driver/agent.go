@@ -14,11 +14,11 @@ import (
 	"github.com/hashicorp/serf/client"
 )
 
-// limit is how long anything may take that has to happen.
+// limit is the maximum time to wait for something that has to happen.
 const limit = 60 * time.Second
 
-// until waits until this holds, and says whether it did in time.
-func until(holds func() bool) bool {
+// waitUntil waits until the condition holds, and reports whether it did so within the limit.
+func waitUntil(holds func() bool) bool {
 	for end := time.Now().Add(limit); time.Now().Before(end); time.Sleep(20 * time.Millisecond) {
 		if holds() {
 			return true
@@ -27,25 +27,26 @@ func until(holds func() bool) bool {
 	return holds()
 }
 
-// agent is an agent's process, and a client of it.
+// agent is an agent's process, together with a client of it.
 type agent struct {
 	*client.RPCClient
 	name, addr string
 	auth       string
 	process    *exec.Cmd
-	over       chan struct{}
+	ended      chan struct{}
 }
 
-func (r *run) addr(number int) string { return fmt.Sprintf("%s.%d", r.net, r.first+number) }
+// addr returns the address with this number in the network of the run.
+func (r *run) addr(number int) string { return fmt.Sprintf("%s.%d", r.network, r.firstAddress+number) }
 
-// start starts an agent, and waits until it takes a client.
-func (r *run) start(name string, number int, words ...string) *agent {
+// startAgent starts an agent, and waits until it accepts a client.
+func (r *run) startAgent(name string, number int, words ...string) *agent {
 	return r.startWith("", name, number, words...)
 }
 
-// startWith starts an agent that asks its clients for a token.
+// startWith starts an agent whose clients have to send a token.
 func (r *run) startWith(auth, name string, number int, words ...string) *agent {
-	a := &agent{name: name, addr: r.addr(number), auth: auth, over: make(chan struct{})}
+	a := &agent{name: name, addr: r.addr(number), auth: auth, ended: make(chan struct{})}
 	settings := filepath.Join(r.folder, name+".json")
 	text, err := json.Marshal(map[string]string{"rpc_auth": auth})
 	if err == nil {
@@ -54,9 +55,9 @@ func (r *run) startWith(auth, name string, number int, words ...string) *agent {
 	if err != nil {
 		r.fail(err)
 	}
-	all := append(append([]string{}, r.program...), "-node="+name, "-bind="+a.addr, "-rpc-addr="+a.rpc(), "-config-file="+settings)
-	all = append(all, "-profile=local", "-log-level=debug")
-	a.process = exec.Command(all[0], append(all[1:], words...)...)
+	command := append(append([]string{}, r.program...), "-node="+name, "-bind="+a.addr, "-rpc-addr="+a.rpcAddr(), "-config-file="+settings)
+	command = append(command, "-profile=local", "-log-level=debug")
+	a.process = exec.Command(command[0], append(command[1:], words...)...)
 	a.process.SysProcAttr = &syscall.SysProcAttr{Pdeathsig: syscall.SIGKILL}
 	if a.process.Stdout, err = os.Create(filepath.Join(r.folder, name+".log")); err == nil {
 		a.process.Stderr = a.process.Stdout
@@ -68,20 +69,20 @@ func (r *run) startWith(auth, name string, number int, words ...string) *agent {
 	r.agents = append(r.agents, a)
 	go func() {
 		_ = a.process.Wait()
-		close(a.over)
+		close(a.ended)
 	}()
 	a.RPCClient = r.dial(a)
 	return a
 }
 
-func (a *agent) rpc() string { return a.addr + ":7373" }
+func (a *agent) rpcAddr() string { return a.addr + ":7373" }
 
-// dial makes a client of an agent, when it takes one.
+// dial makes a client of an agent, as soon as the agent accepts one.
 func (r *run) dial(a *agent) *client.RPCClient {
 	var found *client.RPCClient
 	var err error
-	if !until(func() bool {
-		found, err = client.ClientFromConfig(&client.Config{Addr: a.rpc(), AuthKey: a.auth, Timeout: limit})
+	if !waitUntil(func() bool {
+		found, err = client.ClientFromConfig(&client.Config{Addr: a.rpcAddr(), AuthKey: a.auth, Timeout: limit})
 		return err == nil
 	}) {
 		r.fail(fmt.Errorf("%s takes no client: %w", a.name, err))
@@ -89,37 +90,38 @@ func (r *run) dial(a *agent) *client.RPCClient {
 	return found
 }
 
-// end kills all agents that run.
-func (r *run) end() {
+// killAll kills all agents of the run.
+func (r *run) killAll() {
 	for _, one := range r.agents {
 		one.kill()
 	}
 }
 
-// fail ends the run.
+// fail kills the agents and ends the program with this error.
 func (r *run) fail(err error) {
-	r.end()
+	r.killAll()
 	log.Fatal(err)
 }
 
 func (a *agent) kill() {
 	_ = a.process.Process.Kill()
-	<-a.over
+	<-a.ended
 }
 
-// status is how the process ended by itself.
+// status waits until the process ends by itself, and describes how it ended.
 func (a *agent) status() string {
 	select {
-	case <-a.over:
+	case <-a.ended:
 		return a.process.ProcessState.String()
 	case <-time.After(limit):
 		return "it runs"
 	}
 }
 
-// sees waits until an agent sees a node so, or not at all.
-func (a *agent) sees(name, status string) bool {
-	return until(func() bool {
+// waitForStatus waits until an agent reports this status for a node. If status is empty, it waits until the agent doesn't know
+// the node.
+func (a *agent) waitForStatus(name, status string) bool {
+	return waitUntil(func() bool {
 		found, err := a.MembersFiltered(nil, "", name)
 		if len(found) == 0 {
 			return err == nil && status == ""
@@ -128,7 +130,7 @@ func (a *agent) sees(name, status string) bool {
 	})
 }
 
-// tags are a member's, as an agent has them.
+// tags returns a member's tags as the agent knows them.
 func (a *agent) tags(name string) map[string]string {
 	found, err := a.MembersFiltered(nil, "", name)
 	if err != nil || len(found) == 0 {
@@ -137,10 +139,10 @@ func (a *agent) tags(name string) map[string]string {
 	return found[0].Tags
 }
 
-// names are the members', sorted.
-func names(all []client.Member) []string {
+// sortedNames returns the names of members, sorted.
+func sortedNames(members []client.Member) []string {
 	found := []string{}
-	for _, one := range all {
+	for _, one := range members {
 		found = append(found, one.Name)
 	}
 	sort.Strings(found)

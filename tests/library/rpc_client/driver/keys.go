@@ -13,11 +13,12 @@ const (
 	newKey = "ZmVkY2JhOTg3NjU0MzIxMGZlZGNiYTk4NzY1NDMyMTA="
 )
 
-// tries is how often keys are requested, since each answer is one packet.
-const tries = 10
+// maxTries is the maximum number of times that a key command is sent, since each answer is a single packet and may be
+// lost.
+const maxTries = 10
 
-// sentences is what each node answered, sorted.
-func sentences(messages map[string]string) []string {
+// messageLines returns each node's answer as a sentence, sorted.
+func messageLines(messages map[string]string) []string {
 	found := []string{}
 	for node, message := range messages {
 		found = append(found, fmt.Sprintf("%s says %q", node, message))
@@ -26,45 +27,47 @@ func sentences(messages map[string]string) []string {
 	return found
 }
 
-// key prints what a command of keys says, when as many nodes have said something as are to, or when all have done it.
-func (r *run) key(what string, nodes int, run func(string) (map[string]string, error), key string) {
+// printKeyCommand prints the result of a key command. It repeats the command until this number of nodes have answered
+// with a message or, if nodes is 0, until the command succeeds.
+func (r *run) printKeyCommand(what string, nodes int, run func(string) (map[string]string, error), key string) {
 	messages, err := run(key)
-	for i := 1; i < tries && (len(messages) != nodes || nodes == 0 && err != nil); i++ {
+	for i := 1; i < maxTries && (len(messages) != nodes || nodes == 0 && err != nil); i++ {
 		messages, err = run(key)
 	}
-	r.say(what+", error", err)
-	r.say(what+", messages", sentences(messages))
+	r.printFact(what+", error", err)
+	r.printFact(what+", messages", messageLines(messages))
 }
 
-// listed prints which keys there are, when each of the nodes has said so.
-func (r *run) listed(what string, on *agent, isRefused bool) {
+// printKeys prints the keys that the nodes have. It repeats list-keys until it succeeds or, if isRefused is true, until
+// it fails.
+func (r *run) printKeys(what string, on *agent, isRefused bool) {
 	keys, count, messages, err := on.ListKeys()
-	for i := 1; i < tries && (err != nil) != isRefused; i++ {
+	for i := 1; i < maxTries && (err != nil) != isRefused; i++ {
 		keys, count, messages, err = on.ListKeys()
 	}
-	r.say(what+", error", err)
-	r.say(what+", messages", sentences(messages))
-	r.say(what, fmt.Sprintf("%d keys, the old one at %d and the new one at %d of %d", len(keys), keys[oldKey], keys[newKey], count))
+	r.printFact(what+", error", err)
+	r.printFact(what+", messages", messageLines(messages))
+	r.printFact(what, fmt.Sprintf("%d keys, the old one at %d and the new one at %d of %d", len(keys), keys[oldKey], keys[newKey], count))
 }
 
-// unencrypted requests keys from nodes that have none.
-func (r *run) unencrypted() {
-	r.key("install-key without encryption", 2, r.a.InstallKey, newKey)
-	r.key("use-key without encryption", 2, r.a.UseKey, newKey)
-	r.key("remove-key without encryption", 2, r.a.RemoveKey, newKey)
-	r.listed("list-keys without encryption", r.a, true)
+// tryKeysWithoutEncryption sends key commands to nodes that have no keys.
+func (r *run) tryKeysWithoutEncryption() {
+	r.printKeyCommand("install-key without encryption", 2, r.a.InstallKey, newKey)
+	r.printKeyCommand("use-key without encryption", 2, r.a.UseKey, newKey)
+	r.printKeyCommand("remove-key without encryption", 2, r.a.RemoveKey, newKey)
+	r.printKeys("list-keys without encryption", r.a, true)
 	messages, err := r.a.InstallKey("bad")
-	r.say("install-key of a bad key, error", err)
-	r.say("install-key of a bad key, messages", sentences(messages))
+	r.printFact("install-key of a bad key, error", err)
+	r.printFact("install-key of a bad key, messages", messageLines(messages))
 }
 
-// keyed changes the key of two nodes.
-func (r *run) keyed() {
-	one, other := r.startWith("sesame", "k", 7, "-encrypt="+oldKey), r.start("l", 8, "-encrypt="+oldKey)
+// tryKeys changes the key of two nodes.
+func (r *run) tryKeys() {
+	one, other := r.startWith("sesame", "k", 7, "-encrypt="+oldKey), r.startAgent("l", 8, "-encrypt="+oldKey)
 	_, err := one.Join([]string{other.addr}, false)
-	r.say("join with a key, error", err)
-	r.say("join with a key is seen", one.sees("l", "alive") && other.sees("k", "alive"))
-	r.listed("list-keys at first", one, false)
+	r.printFact("join with a key, error", err)
+	r.printFact("join with a key is seen", one.waitForStatus("l", "alive") && other.waitForStatus("k", "alive"))
+	r.printKeys("list-keys at first", one, false)
 	for _, step := range []struct {
 		what  string
 		run   func(string) (map[string]string, error)
@@ -75,25 +78,25 @@ func (r *run) keyed() {
 		{"remove-key of the key in use", one.RemoveKey, oldKey, 2}, {"use-key", one.UseKey, newKey, 0},
 		{"remove-key", one.RemoveKey, oldKey, 0}, {"remove-key again", one.RemoveKey, oldKey, 0},
 	} {
-		r.key(step.what, step.nodes, step.run, step.key)
-		r.listed("list-keys behind "+step.what, other, false)
+		r.printKeyCommand(step.what, step.nodes, step.run, step.key)
+		r.printKeys("list-keys behind "+step.what, other, false)
 	}
 }
 
-// authenticated tries an agent that requires a token.
-func (r *run) authenticated() {
+// tryTokens connects to an agent that requires a token, with the right token, with another one and without one.
+func (r *run) tryTokens() {
 	k := r.agents[len(r.agents)-2]
-	one, err := client.ClientFromConfig(&client.Config{Addr: k.rpc(), AuthKey: "sesame", Timeout: limit})
-	r.say("client with the token, error", err)
+	one, err := client.ClientFromConfig(&client.Config{Addr: k.rpcAddr(), AuthKey: "sesame", Timeout: limit})
+	r.printFact("client with the token, error", err)
 	_, err = one.Members()
-	r.say("client with the token, members, error", err)
+	r.printFact("client with the token, members, error", err)
 	one.Close()
-	_, err = client.ClientFromConfig(&client.Config{Addr: k.rpc(), AuthKey: "rice", Timeout: limit})
-	r.say("client with another token, error", err)
-	one, err = client.NewRPCClient(k.rpc())
-	r.say("client without a token, error", err)
-	r.say("client without a token, event, error", one.UserEvent("x", nil, false))
+	_, err = client.ClientFromConfig(&client.Config{Addr: k.rpcAddr(), AuthKey: "rice", Timeout: limit})
+	r.printFact("client with another token, error", err)
+	one, err = client.NewRPCClient(k.rpcAddr())
+	r.printFact("client without a token, error", err)
+	r.printFact("client without a token, event, error", one.UserEvent("x", nil, false))
 	_, err = one.Members()
-	r.say("client without a token, members, error", err)
+	r.printFact("client without a token, members, error", err)
 	one.Close()
 }

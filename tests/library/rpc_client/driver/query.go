@@ -9,56 +9,57 @@ import (
 	"github.com/hashicorp/serf/client"
 )
 
-// answer has a node answer each query of the name "who", by a separate stream.
-func (r *run) answer(of *agent) {
-	one, records := r.dial(of), make(chan map[string]interface{}, 1024)
+// answerQueries makes a node answer each query with the name "who", through a separate stream.
+func (r *run) answerQueries(answering *agent) {
+	one, records := r.dial(answering), make(chan map[string]interface{}, 1024)
 	if _, err := one.Stream("query", records); err != nil {
 		r.fail(err)
 	}
 	go func() {
-		for asked := range records {
-			if asked["Name"] == "who" {
-				// (a late one fails, and the query is repeated)
-				_ = one.Respond(number(asked["ID"]), append([]byte(of.name), bytes...))
+		for query := range records {
+			if query["Name"] == "who" {
+				// (a late answer fails, and then the query is repeated)
+				_ = one.Respond(wholeNumber(query["ID"]), append([]byte(answering.name), binaryPayload...))
 			}
 		}
 	}()
 }
 
-// answers are what a query's channels returned, sorted.
+// answers has the acks and responses that a query's channels returned, sorted.
 type answers struct {
 	acks, responses []string
 	payloads        []string
 	isOver          bool
 }
 
-// ask asks until all acks and responses have come, since each is one packet, and waits longer each time.
-func (r *run) ask(what string, acks, responses []string, params client.QueryParam) {
+// printQuery fires a query until these acks and responses have arrived, with a longer timeout each time. Each of them
+// is a single packet and may be lost.
+func (r *run) printQuery(what string, acks, responses []string, params client.QueryParam) {
 	var found answers
 	for params.Timeout = 500 * time.Millisecond; params.Timeout <= 32*time.Second; params.Timeout *= 2 {
 		var err error
-		if found, err = askOnce(r.a, params); err != nil {
-			r.say(what+", error", err)
+		if found, err = queryOnce(r.a, params); err != nil {
+			r.printFact(what+", error", err)
 			return
 		}
 		if reflect.DeepEqual(found.acks, acks) && reflect.DeepEqual(found.responses, responses) {
 			break
 		}
 	}
-	r.say(what+", acks", found.acks)
-	r.say(what+", responses", found.responses)
-	r.say(what+", payloads", found.payloads)
-	r.say(what+", both channels are closed", found.isOver)
+	r.printFact(what+", acks", found.acks)
+	r.printFact(what+", responses", found.responses)
+	r.printFact(what+", payloads", found.payloads)
+	r.printFact(what+", both channels are closed", found.isOver)
 }
 
-// askOnce asks, and waits until the channels are closed.
-func askOnce(on *agent, params client.QueryParam) (found answers, err error) {
+// queryOnce fires a query, and waits until its channels are closed.
+func queryOnce(on *agent, params client.QueryParam) (found answers, err error) {
 	acks, responses := make(chan string, 64), make(chan client.NodeResponse, 64)
 	params.AckCh, params.RespCh = acks, responses
 	if err := on.Query(&params); err != nil {
 		return found, err
 	}
-	late := time.After(params.Timeout + limit)
+	timeout := time.After(params.Timeout + limit)
 	for acks != nil || responses != nil {
 		select {
 		case from, more := <-acks:
@@ -74,7 +75,7 @@ func askOnce(on *agent, params client.QueryParam) (found answers, err error) {
 			}
 			found.responses = append(found.responses, one.From)
 			found.payloads = append(found.payloads, fmt.Sprintf("%s says %q", one.From, one.Payload))
-		case <-late:
+		case <-timeout:
 			return found, nil
 		}
 	}

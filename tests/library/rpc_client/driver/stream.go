@@ -12,21 +12,22 @@ import (
 	"github.com/hashicorp/serf/client"
 )
 
-// record is what a stream has of an event.
+// record is the form of an event in a stream.
 type record = map[string]interface{}
 
-// stream keeps the records that arrive.
+// stream collects the records that arrive.
 type stream struct {
 	handle client.StreamHandle
 
-	mu      sync.Mutex
-	records []record
-	over    bool
+	mu       sync.Mutex
+	records  []record
+	hasEnded bool
 }
 
-// follow keeps the records of a stream of this filter.
+// follow starts a stream with this filter, and collects its records.
 func (r *run) follow(on *agent, filter string) *stream { return r.followBy(on.RPCClient, filter) }
 
+// followBy is follow with a separate client.
 func (r *run) followBy(by *client.RPCClient, filter string) *stream {
 	s, records := &stream{}, make(chan map[string]interface{}, 1024)
 	var err error
@@ -41,7 +42,7 @@ func (r *run) followBy(by *client.RPCClient, filter string) *stream {
 		}
 		s.mu.Lock()
 		defer s.mu.Unlock()
-		s.over = true
+		s.hasEnded = true
 	}()
 	return s
 }
@@ -49,35 +50,36 @@ func (r *run) followBy(by *client.RPCClient, filter string) *stream {
 func (s *stream) isOver() bool {
 	s.mu.Lock()
 	defer s.mu.Unlock()
-	return s.over
+	return s.hasEnded
 }
 
-// seen is the first record that is so, or nil.
-func (s *stream) seen(is func(record) bool) record {
+// firstRecord returns the first record that matches, or nil.
+func (s *stream) firstRecord(matches func(record) bool) record {
 	s.mu.Lock()
 	defer s.mu.Unlock()
 	for _, one := range s.records {
-		if is(one) {
+		if matches(one) {
 			return one
 		}
 	}
 	return nil
 }
 
-// find waits for a record that is so.
-func (s *stream) find(is func(record) bool) (found record) {
-	until(func() bool {
-		found = s.seen(is)
+// waitForRecord waits for a record that matches, and returns nil if there is none within the limit.
+func (s *stream) waitForRecord(matches func(record) bool) (found record) {
+	waitUntil(func() bool {
+		found = s.firstRecord(matches)
 		return found != nil
 	})
 	return found
 }
 
-func (s *stream) has(name string) bool {
-	return s.seen(func(one record) bool { return one["Name"] == name }) != nil
+// hasEventNamed reports whether a record of an event with this name has arrived.
+func (s *stream) hasEventNamed(name string) bool {
+	return s.firstRecord(func(one record) bool { return one["Name"] == name }) != nil
 }
 
-// kinds are the kinds of the records, with the names of user events.
+// kinds returns the kinds of the records, sorted. The kind of a user event includes its name.
 func (s *stream) kinds() []string {
 	s.mu.Lock()
 	defer s.mu.Unlock()
@@ -97,8 +99,8 @@ func (s *stream) kinds() []string {
 	return found
 }
 
-// of are the kinds of the records of a member, in order.
-func (s *stream) of(name string) []string {
+// kindsOf returns the kinds of the records about a member, in their order.
+func (s *stream) kindsOf(name string) []string {
 	s.mu.Lock()
 	defer s.mu.Unlock()
 	found := []string{}
@@ -110,8 +112,9 @@ func (s *stream) of(name string) []string {
 	return found
 }
 
-// once has each kind once, at its first place: on a busy machine, a node may seem to have failed.
-func once(kinds []string) []string {
+// withoutRepeats returns each kind once, at its first position. On a busy machine, a node may seem to fail more often
+// than it does.
+func withoutRepeats(kinds []string) []string {
 	found, seen := []string{}, map[string]bool{}
 	for _, kind := range kinds {
 		if !seen[kind] {
@@ -122,81 +125,82 @@ func once(kinds []string) []string {
 	return found
 }
 
-// text is a payload, of whichever type it was.
-func text(payload interface{}) string {
+// payloadText returns a payload as a string, whatever its type is.
+func payloadText(payload interface{}) string {
 	if payload == nil {
 		return ""
 	}
 	return fmt.Sprintf("%s", payload)
 }
 
-// record prints the first record of a stream with this name and payload, field by field.
-func (r *run) record(filter, name string, payload []byte) {
-	found := r.streams[filter].find(func(one record) bool { return one["Name"] == name && text(one["Payload"]) == string(payload) })
+// printRecord waits for the first record of a stream with this name and payload, and prints its fields.
+func (r *run) printRecord(filter, name string, payload []byte) {
+	found := r.streams[filter].waitForRecord(func(one record) bool { return one["Name"] == name && payloadText(one["Payload"]) == string(payload) })
 	what := fmt.Sprintf("stream of %s, %s %.8q", filter, name, payload)
 	if found == nil {
-		r.say(what, "it never came")
+		r.printFact(what, "it never came")
 		return
 	}
 	isQuery := found["Event"] == "query"
-	for _, field := range fields(found) {
-		value := shown(found[field])
+	for _, field := range sortedFields(found) {
+		value := typedText(found[field])
 		if field == "ID" || field == "LTime" && isQuery {
 			value = fmt.Sprintf("%T", found[field])
 		}
-		r.say(what+", "+field, value)
+		r.printFact(what+", "+field, value)
 	}
 }
 
-// member prints what the stream of a kind says of a member, field by field.
-func (r *run) member(kind, name string) {
+// printMember prints the fields of a member, from the records of this kind about it.
+func (r *run) printMember(kind, name string) {
 	for _, filter := range []string{kind, "*"} {
 		var member map[interface{}]interface{}
-		found := r.streams[filter].find(func(one record) bool {
+		found := r.streams[filter].waitForRecord(func(one record) bool {
 			member = memberIn(one, name)
 			return one["Event"] == kind && member != nil
 		})
 		what := fmt.Sprintf("stream of %s, %s of %s", filter, kind, name)
 		if found == nil {
-			r.say(what, "it never came")
+			r.printFact(what, "it never came")
 			continue
 		}
-		for _, field := range fields(found) {
-			r.say(what+", "+field, fmt.Sprintf("%T", found[field]))
+		for _, field := range sortedFields(found) {
+			r.printFact(what+", "+field, fmt.Sprintf("%T", found[field]))
 		}
 		inner := record{}
 		for field, value := range member {
 			inner[fmt.Sprintf("%v, a %T", field, field)] = value
 		}
-		for _, field := range fields(inner) {
-			r.say(what+", member, "+field, shown(inner[field]))
+		for _, field := range sortedFields(inner) {
+			r.printFact(what+", member, "+field, typedText(inner[field]))
 		}
 	}
 }
 
-// memberIn is the member of this name in a record, or nil.
+// memberIn returns the member with this name in a record, or nil.
 func memberIn(one record, name string) map[interface{}]interface{} {
 	all, _ := one["Members"].([]interface{})
 	for _, each := range all {
-		if member, is := each.(map[interface{}]interface{}); is && member["Name"] == name {
+		if member, ok := each.(map[interface{}]interface{}); ok && member["Name"] == name {
 			return member
 		}
 	}
 	return nil
 }
 
-// fields are a record's, sorted.
-func fields(of record) []string {
+// sortedFields returns the names of a record's fields, sorted.
+func sortedFields(record record) []string {
 	found := []string{}
-	for field := range of {
+	for field := range record {
 		found = append(found, field)
 	}
 	sort.Strings(found)
 	return found
 }
 
-// shown is a value after its type. Addresses are written as texts, so that the net in them can be removed.
-func shown(value interface{}) string {
+// typedText returns a value's type and the value. Addresses are written as texts, so that the network in them can be
+// replaced.
+func typedText(value interface{}) string {
 	switch value := value.(type) {
 	case []byte:
 		if len(value) == net.IPv4len && value[0] == 127 {
@@ -213,7 +217,7 @@ func shown(value interface{}) string {
 	case map[interface{}]interface{}:
 		parts := []string{}
 		for key, inner := range value {
-			parts = append(parts, shown(key)+" = "+shown(inner))
+			parts = append(parts, typedText(key)+" = "+typedText(inner))
 		}
 		sort.Strings(parts)
 		return fmt.Sprintf("%T %s", value, strings.Join(parts, ", "))
@@ -221,20 +225,21 @@ func shown(value interface{}) string {
 	return fmt.Sprintf("%T %v", value, value)
 }
 
-// number is a whole number, of whichever type it was.
-func number(value interface{}) uint64 {
-	switch of := reflect.ValueOf(value); of.Kind() {
+// wholeNumber returns a whole number, whatever its type is.
+func wholeNumber(value interface{}) uint64 {
+	switch reflected := reflect.ValueOf(value); reflected.Kind() {
 	case reflect.Int64:
-		return uint64(of.Int())
+		return uint64(reflected.Int())
 	case reflect.Uint64:
-		return of.Uint()
+		return reflected.Uint()
 	}
 	return 0
 }
 
-// comes says whether a line with one of these texts comes, before the lines end.
-func comes(lines <-chan string, parts ...string) bool {
-	late := time.After(limit)
+// hasLineWith waits for a line that contains one of these texts. It returns false if the lines end before that, or
+// after the limit.
+func hasLineWith(lines <-chan string, parts ...string) bool {
+	timeout := time.After(limit)
 	for {
 		select {
 		case line, more := <-lines:
@@ -246,22 +251,22 @@ func comes(lines <-chan string, parts ...string) bool {
 			if !more {
 				return false
 			}
-		case <-late:
+		case <-timeout:
 			return false
 		}
 	}
 }
 
-// end says whether the lines end.
-func end(lines <-chan string) bool {
-	late := time.After(limit)
+// linesEnd reports whether the lines end within the limit.
+func linesEnd(lines <-chan string) bool {
+	timeout := time.After(limit)
 	for {
 		select {
 		case _, more := <-lines:
 			if !more {
 				return true
 			}
-		case <-late:
+		case <-timeout:
 			return false
 		}
 	}

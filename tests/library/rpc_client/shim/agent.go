@@ -1,5 +1,6 @@
-// Package agent replaces the package of Serf's own agent in a run, so that the tests of Serf's own RPC client, which are in that
-// package, and those of its commands run over an agent that is a process. RPC_CLIENT_PROGRAM has the words that start it, a line each.
+// Package agent replaces the package of Serf's own agent during a test. The tests of Serf's own RPC client are in that
+// package. With this replacement, they and the tests of Serf's commands run against an agent in a separate process.
+// RPC_CLIENT_PROGRAM has the words of the command that starts it, each on a separate line.
 package agent
 
 import (
@@ -17,28 +18,28 @@ import (
 	"github.com/hashicorp/serf/serf"
 )
 
-// startLimit is how long an agent may take to start.
+// startLimit is the maximum time for which an agent may take to start.
 const startLimit = 60 * time.Second
 
-// Config is nothing here: the tests change none of it.
+// Config is empty, since the tests change no field of it.
 type Config struct{}
 
-// DefaultConfig is a Config.
+// DefaultConfig returns an empty Config.
 func DefaultConfig() *Config { return &Config{} }
 
-// Agent is an agent's process, and a client of it.
+// Agent is an agent's process, together with a client of it.
 type Agent struct {
 	conf     *serf.Config
 	process  *exec.Cmd
-	over     chan struct{}
+	ended    chan struct{}
 	rpc      string
-	own      *client.RPCClient
+	client   *client.RPCClient
 	handlers []EventHandler
 }
 
-// Create starts an agent, and waits until it takes a client.
+// Create starts an agent, and waits until it accepts a client.
 func Create(_ *Config, conf *serf.Config, out io.Writer) (*Agent, error) {
-	a := &Agent{conf: conf, over: make(chan struct{}), rpc: conf.MemberlistConfig.BindAddr + ":7373"}
+	a := &Agent{conf: conf, ended: make(chan struct{}), rpc: conf.MemberlistConfig.BindAddr + ":7373"}
 	settings, err := settingsFile()
 	if err != nil {
 		return nil, err
@@ -68,15 +69,15 @@ func Create(_ *Config, conf *serf.Config, out io.Writer) (*Agent, error) {
 	}
 	go func() {
 		_ = a.process.Wait()
-		close(a.over)
+		close(a.ended)
 	}()
 	return a, a.dial()
 }
 
-// token is the token that the agents require, if a test is about it.
+// token returns the token that the agents require, or "" if the test needs none.
 func token() string { return os.Getenv("RPC_CLIENT_AUTH") }
 
-// settingsFile writes what no flag can say.
+// settingsFile writes a file with the settings that have no flag, and returns its path.
 func settingsFile() (string, error) {
 	file, err := os.CreateTemp("", "rpc-client-*.json")
 	if err != nil {
@@ -86,10 +87,10 @@ func settingsFile() (string, error) {
 	return file.Name(), json.NewEncoder(file).Encode(map[string]string{"rpc_auth": token()})
 }
 
-// dial makes the agent's own client, when the agent takes one.
+// dial makes the client of the agent, as soon as the agent accepts one.
 func (a *Agent) dial() (err error) {
 	for end := time.Now().Add(startLimit); time.Now().Before(end); time.Sleep(20 * time.Millisecond) {
-		if a.own, err = client.ClientFromConfig(&client.Config{Addr: a.rpc, AuthKey: token(), Timeout: startLimit}); err == nil {
+		if a.client, err = client.ClientFromConfig(&client.Config{Addr: a.rpc, AuthKey: token(), Timeout: startLimit}); err == nil {
 			return nil
 		}
 	}
@@ -97,16 +98,16 @@ func (a *Agent) dial() (err error) {
 	return fmt.Errorf("the agent takes no client: %w", err)
 }
 
-// RegisterEventHandler adds one, which is told of events from Start on.
+// RegisterEventHandler adds a handler. It receives events after Start was called.
 func (a *Agent) RegisterEventHandler(handler EventHandler) { a.handlers = append(a.handlers, handler) }
 
-// Start begins to pass events to the handlers, from a stream of all.
+// Start begins to pass events to the handlers, from a stream of all events.
 func (a *Agent) Start() error {
 	if len(a.handlers) == 0 {
 		return nil
 	}
 	records := make(chan map[string]interface{}, 1024)
-	if _, err := a.own.Stream("*", records); err != nil {
+	if _, err := a.client.Stream("*", records); err != nil {
 		return err
 	}
 	go func() {
@@ -127,9 +128,9 @@ func (a *Agent) handle(record map[string]interface{}) {
 			handler.HandleEvent(serf.UserEvent{Name: name, Payload: payload})
 		case "query":
 			handler.HandleEvent(&serf.Query{Name: name, Payload: payload})
-			if answering, is := handler.(*MockQueryHandler); is {
+			if answering, ok := handler.(*MockQueryHandler); ok {
 				id, _ := record["ID"].(int64)
-				_ = a.own.Respond(uint64(id), answering.Response)
+				_ = a.client.Respond(uint64(id), answering.Response)
 			}
 		}
 	}
@@ -138,28 +139,28 @@ func (a *Agent) handle(record map[string]interface{}) {
 // Shutdown kills the agent.
 func (a *Agent) Shutdown() error {
 	_ = a.process.Process.Kill()
-	<-a.over
+	<-a.ended
 	return nil
 }
 
-// ShutdownCh is closed when the process is over.
-func (a *Agent) ShutdownCh() <-chan struct{} { return a.over }
+// ShutdownCh returns a channel that is closed when the process has ended.
+func (a *Agent) ShutdownCh() <-chan struct{} { return a.ended }
 
-// Join has the agent join others.
-func (a *Agent) Join(others []string, replay bool) (int, error) { return a.own.Join(others, replay) }
+// Join makes the agent join others.
+func (a *Agent) Join(others []string, replay bool) (int, error) { return a.client.Join(others, replay) }
 
-// Serf is what the tests ask of the agent's members.
-func (a *Agent) Serf() asked { return asked{a} }
+// Serf returns the part of Serf's API that the tests call on the agent.
+func (a *Agent) Serf() serfView { return serfView{a} }
 
-type asked struct{ of *Agent }
+type serfView struct{ agent *Agent }
 
 var statuses = map[string]serf.MemberStatus{
 	"alive": serf.StatusAlive, "leaving": serf.StatusLeaving, "left": serf.StatusLeft, "failed": serf.StatusFailed,
 }
 
-// Members are those that the agent knows; none where it doesn't say.
-func (s asked) Members() (found []serf.Member) {
-	all, _ := s.of.own.Members()
+// Members returns the members that the agent knows, or none if the request fails.
+func (s serfView) Members() (found []serf.Member) {
+	all, _ := s.agent.client.Members()
 	for _, one := range all {
 		found = append(found, serf.Member{Name: one.Name, Addr: one.Addr, Port: one.Port, Tags: one.Tags, Status: statuses[one.Status]})
 	}

@@ -13,26 +13,26 @@ import (
 	"github.com/hashicorp/serf/serf"
 )
 
-// probeTime is how often the tests of Serf's commands assume that an agent probes the others: three times that it takes one that is a
-// process to see a failure.
+// probeTime is the probe interval of the agents, as the tests of Serf's commands see it. These tests wait three probe
+// intervals for a failure to be noticed, which is enough for an agent in a separate process.
 const probeTime = 2 * time.Second
 
-// SerfConfig is what the agent was made with.
+// SerfConfig returns the configuration with which the agent was created.
 func (a *Agent) SerfConfig() *serf.Config {
 	a.conf.MemberlistConfig.ProbeInterval = probeTime
 	return a.conf
 }
 
-// GetCachedCoordinate is the coordinate of a node, and whether the agent has it.
-func (s asked) GetCachedCoordinate(name string) (*coordinate.Coordinate, bool) {
-	found, err := s.of.own.GetCoordinate(name)
+// GetCachedCoordinate returns a node's coordinate, and whether the agent knows it.
+func (s serfView) GetCachedCoordinate(name string) (*coordinate.Coordinate, bool) {
+	found, err := s.agent.client.GetCoordinate(name)
 	return found, err == nil && found != nil
 }
 
 // Shutdown kills the agent.
-func (s asked) Shutdown() error { return s.of.Shutdown() }
+func (s serfView) Shutdown() error { return s.agent.Shutdown() }
 
-// keyringFile writes the keys of a test for its agent, the primary one first.
+// keyringFile writes the keys of a test to a file for its agent. The primary key is the first one.
 func keyringFile(ring *memberlist.Keyring) (string, error) {
 	file, err := os.CreateTemp("", "rpc-client-*.keys")
 	if err != nil {
@@ -46,18 +46,18 @@ func keyringFile(ring *memberlist.Keyring) (string, error) {
 	return file.Name(), json.NewEncoder(file).Encode(keys)
 }
 
-// AppendSliceValue is a flag that may be said more than once.
+// AppendSliceValue is a flag that may be set more than once.
 type AppendSliceValue []string
 
 func (all *AppendSliceValue) String() string { return strings.Join(*all, ",") }
 
-// Set takes one more value.
+// Set adds a value.
 func (all *AppendSliceValue) Set(value string) error {
 	*all = append(*all, value)
 	return nil
 }
 
-// MarshalTags are tags as texts.
+// MarshalTags converts tags to texts of the form key=value.
 func MarshalTags(tags map[string]string) (texts []string) {
 	for key, value := range tags {
 		texts = append(texts, key+"="+value)
@@ -65,12 +65,13 @@ func MarshalTags(tags map[string]string) (texts []string) {
 	return texts
 }
 
-// UnmarshalTags are tags out of texts.
+// UnmarshalTags converts texts of the form key=value to tags.
 func UnmarshalTags(texts []string) (map[string]string, error) {
 	tags := map[string]string{}
 	for _, text := range texts {
-		key, value, is := strings.Cut(text, "=")
-		if !is || key == "" {
+		key, value, ok := strings.Cut(text, "=")
+		if !ok || key == "" {
+			//lint:ignore ST1005 Serf's own message
 			return nil, fmt.Errorf("Invalid tag: '%s'", text)
 		}
 		tags[key] = value

@@ -6,10 +6,10 @@ import (
 	"github.com/hashicorp/serf/serf"
 )
 
-// EventHandler receives events.
+// EventHandler handles events.
 type EventHandler interface{ HandleEvent(serf.Event) }
 
-// MockEventHandler keeps the events that it receives.
+// MockEventHandler keeps the events that it handles.
 type MockEventHandler struct {
 	sync.Mutex
 	Events []serf.Event
@@ -22,17 +22,17 @@ func (mock *MockEventHandler) HandleEvent(one serf.Event) {
 	mock.Events = append(mock.Events, one)
 }
 
-// MockQueryHandler keeps the queries that it receives. The agent's client answers them with Response.
+// MockQueryHandler keeps the queries that it handles. The agent's client answers them with Response.
 type MockQueryHandler struct {
 	sync.Mutex
 	Response []byte
 	Queries  []*serf.Query
 }
 
-// HandleEvent keeps a query.
+// HandleEvent keeps a query, and ignores other events.
 func (mock *MockQueryHandler) HandleEvent(one serf.Event) {
-	query, is := one.(*serf.Query)
-	if !is {
+	query, ok := one.(*serf.Query)
+	if !ok {
 		return
 	}
 	mock.Lock()

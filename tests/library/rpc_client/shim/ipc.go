@@ -5,17 +5,19 @@ import (
 	"net"
 )
 
-// authRequired is an agent's error if a token is missing.
+// authRequired is the agent's error message if a client sent no token.
+//
+//lint:ignore U1000 Serf's own tests of this package use it
 const authRequired = "Authentication required"
 
-// AgentIPC passes each connection on to the agent's own address. A test may set the key: the agent has it from its start on, by
-// RPC_CLIENT_AUTH.
+// AgentIPC passes each connection on to the agent's own address. A test may set authKey, but the agent has had its
+// token since its start, from RPC_CLIENT_AUTH.
 type AgentIPC struct {
 	listener net.Listener
 	authKey  string
 }
 
-// NewAgentIPC begins to pass connections on.
+// NewAgentIPC starts to pass connections on.
 func NewAgentIPC(a *Agent, authKey string, listener net.Listener, _ io.Writer, _ io.Writer) *AgentIPC {
 	go func() {
 		for {
@@ -43,8 +45,8 @@ func passOn(from net.Conn, address string) {
 	_, _ = io.Copy(from, to)
 }
 
-// Shutdown takes no more connections.
+// Shutdown accepts no more connections.
 func (i *AgentIPC) Shutdown() { i.listener.Close() }
 
-// NewLogWriter throws away what is written: the agent keeps its own log.
+// NewLogWriter drops everything that is written, because the agent keeps its own log.
 func NewLogWriter(int) io.Writer { return io.Discard }

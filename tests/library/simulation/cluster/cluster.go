@@ -11,9 +11,10 @@ import (
 	"kitchenrue.example/simulation/planted"
 )
 
-// Times of a run, in virtual time: how long the cluster may take to form and, after the last failure, until all members are alive and until it
-// has recovered; how long the final events may take; how often bounds are checked; and how long the nodes may take to end. aliveTime is
-// shorter than RecentIntentTimeout, after which a node no longer believes a leave of a living member that nobody refutes.
+// The times of a run, in virtual time. For example, formTime limits how long the cluster takes to form, and aliveTime
+// and recoveryTime how long it takes after the last failure until all members are alive and until it has recovered.
+// aliveTime is shorter than RecentIntentTimeout: after that time, a node no longer believes that a living member is
+// leaving, even if nobody refutes it.
 const (
 	formTime      = 20 * time.Second
 	aliveTime     = 3 * time.Minute
@@ -33,29 +34,29 @@ const (
 	recordedShare = 0.02
 )
 
-// Bounds of what a node uses.
+// The bounds of a node's resources and of its traffic.
 const (
 	maxGoroutines   = 100
 	maxSnapshotSize = 16 << 10
-	// maxKeptSize is for a snapshot that keeps events.
+	// maxKeptSize replaces maxSnapshotSize if the snapshot keeps events.
 	maxKeptSize = 256 << 10
-	// maxPacketsPerSecond is for a node while nothing happens.
+	// maxPacketsPerSecond is the bound for a node while nothing happens.
 	maxPacketsPerSecond = 6
 )
 
-// cluster is a run: the nodes, the network between them and what happens.
+// cluster is a run: its nodes, the network between them, and its plan.
 type cluster struct {
 	plan    plan
 	journal *journal
 	network *network
 	ledger  *ledger
 	nodes   []*node
-	// isHealed: the failures are over. isFinal: the final events and queries are fired.
+	// isHealed is true when the failures are over. isFinal is true when the final events and queries are fired.
 	isHealed, isFinal atomic.Bool
-	// joinedIgnoring is when a node last joined others and ignored old events, in nanoseconds since 1970.
+	// joinedIgnoring is the moment when a node last joined others and ignored old events, in nanoseconds since 1970.
 	joinedIgnoring atomic.Int64
 	steps          sync.WaitGroup
-	// goroutines is how many there were before the first node.
+	// goroutines is the number of goroutines before the first node began.
 	goroutines int
 
 	mu  sync.Mutex
@@ -75,7 +76,7 @@ func newCluster(p plan, seed int64, j *journal) *cluster {
 	return c
 }
 
-// newRand returns a new source of chance, which the run's seed determines.
+// newRand returns a new random generator. The run's seed determines its numbers.
 func (c *cluster) newRand() *rand.Rand {
 	c.mu.Lock()
 	defer c.mu.Unlock()
@@ -97,7 +98,7 @@ func (c *cluster) run() {
 		c.steps.Add(1)
 		go func(s step) {
 			defer c.steps.Done()
-			c.do(s)
+			c.execute(s)
 		}(s)
 	}
 	time.Sleep(time.Until(began.Add(c.plan.length)))
@@ -115,17 +116,17 @@ func (c *cluster) run() {
 	c.checkEnd()
 }
 
-// do does a step.
-func (c *cluster) do(s step) {
+// execute executes a step of the plan.
+func (c *cluster) execute(s step) {
 	rng := rand.New(rand.NewSource(s.seed))
 	n := c.nodes[s.node]
-	l := n.living()
+	l := n.currentLife()
 	if l == nil {
 		return
 	}
 	switch s.kind {
 	case fire:
-		for count := c.burst(rng); count > 0; count-- {
+		for count := c.burstSize(rng); count > 0; count-- {
 			l.fire(rng)
 		}
 	case query:
@@ -137,65 +138,65 @@ func (c *cluster) do(s step) {
 		}
 		l.serf.Join([]string{c.nodes[rng.Intn(len(c.nodes))].address}, isIgnoring)
 	case killProcess:
-		l.cut(false)
+		l.crash(false)
 	case cutPower:
-		l.cut(true)
+		l.crash(true)
 	case cutInFlush:
-		l.disk.WhileFlushing(func() { l.cut(true) })
+		l.disk.WhileFlushing(func() { l.crash(true) })
 	case cutAtHandOut:
 		l.cutAtHandOut.Store(true)
 	case stop:
-		l.stop(false)
+		l.shutDown(false)
 	case leave:
-		l.stop(true)
+		l.shutDown(true)
 	case forceLeave:
 		l.serf.RemoveFailedNode(c.nodes[rng.Intn(len(c.nodes))].name)
 	case cutNetwork:
-		sides := map[string]int{}
+		partOf := map[string]int{}
 		for _, other := range c.nodes {
-			sides[other.address] = rng.Intn(2)
+			partOf[other.address] = rng.Intn(2)
 		}
-		c.network.cut(sides)
-		c.after(s.lasts, func() { c.network.cut(map[string]int{}) })
+		c.network.partition(partOf)
+		c.undoAfter(s.duration, func() { c.network.partition(map[string]int{}) })
 	case addNoise:
 		c.network.setNoise(noise{lose: rng.Float64() / 3, repeat: rng.Float64() / 3, late: rng.Float64() / 3})
-		c.after(s.lasts, func() { c.network.setNoise(noise{}) })
+		c.undoAfter(s.duration, func() { c.network.setNoise(noise{}) })
 	case fillDisk:
 		n.setDiskState(func() { n.isDiskFull = true })
-		c.after(s.lasts, func() { n.setDiskState(func() { n.isDiskFull = false }) })
+		c.undoAfter(s.duration, func() { n.setDiskState(func() { n.isDiskFull = false }) })
 	case failFlushes:
 		n.setDiskState(func() { n.failing = rng.Float64() / 2 })
-		c.after(s.lasts, func() { n.setDiskState(func() { n.failing = 0 }) })
+		c.undoAfter(s.duration, func() { n.setDiskState(func() { n.failing = 0 }) })
 	case slowDisk:
 		n.setDiskState(func() { n.maxFlush = time.Duration(rng.Int63n(int64(maxSlowFlush))) })
-		c.after(s.lasts, func() { n.setDiskState(func() { n.maxFlush = maxFlush }) })
+		c.undoAfter(s.duration, func() { n.setDiskState(func() { n.maxFlush = maxFlush }) })
 	case slowReader:
 		l.isSlow.Store(true)
 		l.wasSlow.Store(true)
-		c.after(s.lasts, func() { l.isSlow.Store(false) })
+		c.undoAfter(s.duration, func() { l.isSlow.Store(false) })
 	case shiftClock:
 		planted.TimeOfDayShift.Store(rng.Int63n(int64(20*365*24*time.Hour)) - int64(10*365*24*time.Hour))
 	case replayPackets:
-		c.attack(s, c.recorded)
+		c.attack(s, c.recordedPacket)
 	case sendGarbage:
-		c.attack(s, c.garbage)
+		c.attack(s, c.garbagePacket)
 	case sendFarTime:
-		c.attack(s, c.farTime)
+		c.attack(s, c.farPacket)
 	case forgeEvents:
-		c.attack(s, c.forgedEvent)
+		c.attack(s, c.forgedPacket)
 	}
 }
 
-// burst returns how many events to fire at once.
-func (c *cluster) burst(rng *rand.Rand) int {
+// burstSize returns the number of events to fire at once.
+func (c *cluster) burstSize(rng *rand.Rand) int {
 	if rng.Intn(25) == 0 {
 		return rng.Intn(burstLength)
 	}
 	return 1
 }
 
-// after does something after a time, unless the failures are over by then.
-func (c *cluster) after(wait time.Duration, undo func()) {
+// undoAfter calls undo when this time has passed, unless the failures are over by then.
+func (c *cluster) undoAfter(wait time.Duration, undo func()) {
 	time.AfterFunc(wait, func() {
 		if !c.isHealed.Load() {
 			undo()
@@ -208,11 +209,11 @@ func (c *cluster) heal() {
 	c.journal.add("the failures are over")
 	c.isHealed.Store(true)
 	c.network.setNoise(noise{})
-	c.network.cut(map[string]int{})
+	c.network.partition(map[string]int{})
 	planted.TimeOfDayShift.Store(0)
 	for _, n := range c.nodes {
 		n.setDiskState(func() { n.isDiskFull, n.failing, n.maxFlush = false, 0, maxFlush })
-		if l := n.living(); l != nil {
+		if l := n.currentLife(); l != nil {
 			l.isSlow.Store(false)
 			l.cutAtHandOut.Store(false)
 			l.disk.WhileFlushing(nil)
@@ -220,7 +221,8 @@ func (c *cluster) heal() {
 	}
 }
 
-// sample checks the bounds at intervals, and collects garbage at fixed virtual times, so that the collector does the same in each run.
+// sample checks the bounds at intervals. It also collects garbage at fixed virtual times, so that the garbage collector
+// does the same in each run.
 func (c *cluster) sample(stop <-chan struct{}) {
 	collected := time.Now()
 	for {
@@ -237,7 +239,7 @@ func (c *cluster) sample(stop <-chan struct{}) {
 	}
 }
 
-// checkBounds checks what the nodes use.
+// checkBounds checks the number of goroutines and the sizes of the snapshots against their bounds.
 func (c *cluster) checkBounds() {
 	count := runtime.NumGoroutine()
 	if max := c.goroutines + maxGoroutines*len(c.nodes); count > max {
@@ -248,7 +250,7 @@ func (c *cluster) checkBounds() {
 		maxSize = maxKeptSize
 	}
 	for _, n := range c.nodes {
-		l := n.living()
+		l := n.currentLife()
 		if l == nil {
 			continue
 		}
@@ -258,11 +260,11 @@ func (c *cluster) checkBounds() {
 	}
 }
 
-// lives returns the present lives. A node that is down although the failures are over is reported.
+// lives returns the present lives of all nodes. It reports each node that is down.
 func (c *cluster) lives() []*life {
 	var lives []*life
 	for _, n := range c.nodes {
-		if l := n.living(); l != nil {
+		if l := n.currentLife(); l != nil {
 			lives = append(lives, l)
 		} else {
 			c.ledger.violate("up", "n%d is down at the end", n.number)
@@ -271,7 +273,7 @@ func (c *cluster) lives() []*life {
 	return lives
 }
 
-// checkMembers checks that each node sees each one with a status that isRight accepts.
+// checkMembers checks each node's status for each member: isRight has to accept it.
 func (c *cluster) checkMembers(healed time.Time, isRight func(n *node, status serf.MemberStatus) bool) {
 	since := time.Since(healed).Round(time.Second)
 	for _, l := range c.lives() {
@@ -289,11 +291,12 @@ func (c *cluster) checkMembers(healed time.Time, isRight func(n *node, status se
 	}
 }
 
-// checkSpread fires the final events and queries. Each node has to hand out each of them, most of them soon.
+// checkSpread fires the final events and queries. Each node has to hand out each of them, and has to hand out most of
+// them soon.
 func (c *cluster) checkSpread() {
 	c.isFinal.Store(true)
 	lives, rng := c.lives(), c.newRand()
-	before := c.ledger.attemptsUntilNow()
+	before := c.ledger.firingsBegun()
 	for i := 0; i < eventsByNode; i++ {
 		for _, l := range lives {
 			l.fire(rng)
@@ -312,26 +315,27 @@ func (c *cluster) checkSpread() {
 	}
 }
 
-// fireWithoutOne fires an event while one node is cut off, for longer than the others gossip it. That node has to get it from a state.
+// fireWithoutOne cuts one node off and fires an event. The node is cut off for longer than the others gossip the event,
+// so only a push/pull can deliver it.
 func (c *cluster) fireWithoutOne(lives []*life, rng *rand.Rand) []string {
 	if len(lives) < 2 {
 		return nil
 	}
 	at := rng.Intn(len(lives))
-	c.network.cut(map[string]int{lives[at].node.address: 1})
-	before := c.ledger.attemptsUntilNow()
+	c.network.partition(map[string]int{lives[at].node.address: 1})
+	before := c.ledger.firingsBegun()
 	lives[(at+1)%len(lives)].fire(rng)
 	time.Sleep(cutOffTime)
-	c.network.cut(map[string]int{})
+	c.network.partition(map[string]int{})
 	return c.ledger.acceptedIf(func(f *firing) bool { return f.order > before })
 }
 
-// checkGossip checks that gossip delivered most of these events, without an exchange of states.
+// checkGossip checks that gossip alone delivered most of these events, without a push/pull.
 func (c *cluster) checkGossip(names []string, lives []*life) {
 	missing := 0
 	for _, name := range names {
 		for _, l := range lives {
-			if !c.ledger.hasHanded(l.node.number, name) {
+			if !c.ledger.hasHandedOut(l.node.number, name) {
 				missing++
 			}
 		}
@@ -341,8 +345,9 @@ func (c *cluster) checkGossip(names []string, lives []*life) {
 	}
 }
 
-// settledEvents returns the events that all nodes have to have: those that were accepted after each node had begun its present life and
-// joined the others, as far as the windows reach. There are none if a hostile member changed packets, since it may have moved the windows.
+// settledEvents returns the events that all nodes have to have. These were accepted after each node had begun its
+// present life and joined the others, and are within the windows. If a hostile member changed packets, it returns none,
+// since that member may have moved the windows.
 func (c *cluster) settledEvents(lives []*life) []string {
 	if c.ledger.isForgeable || c.plan.has(forgeEvents) {
 		return nil
@@ -366,15 +371,15 @@ func (c *cluster) settledEvents(lives []*life) []string {
 func (c *cluster) checkEverywhere(names []string, lives []*life) {
 	for _, name := range names {
 		for _, l := range lives {
-			if !c.ledger.hasHanded(l.node.number, name) {
+			if !c.ledger.hasHandedOut(l.node.number, name) {
 				c.ledger.violate("spread", "n%d.%d did not hand out event %s", l.node.number, l.number, name)
 			}
 		}
 	}
 }
 
-// checkQueries fires a query at each node. All nodes together have to answer most of them, and none through relays. (Gossip reaches each
-// node with a high probability only, and no state contains queries.)
+// checkQueries fires a query at each node. Most of the answers have to arrive, and without relays. (Gossip reaches each
+// node only with a high probability, and a push/pull carries no queries.)
 func (c *cluster) checkQueries(lives []*life, rng *rand.Rand) {
 	relays, missing := c.network.relaysSent(), 0
 	for _, l := range lives {
@@ -392,17 +397,17 @@ func (c *cluster) checkQueries(lives []*life, rng *rand.Rand) {
 // isOwn reports whether this life fired an event.
 func (l *life) isOwn(f *firing) bool { return f.node == l.node.number && f.life == l.number }
 
-// checkOwn checks that the life handed out these events, which it accepted.
+// checkOwn checks that the life handed out these events, which it had fired itself.
 func (l *life) checkOwn(names []string) {
 	ledger := l.node.cluster.ledger
 	for _, name := range names {
-		if !ledger.hasHanded(l.node.number, name) {
+		if !ledger.hasHandedOut(l.node.number, name) {
 			ledger.violate("own", "n%d.%d accepted event %s and did not hand it out", l.node.number, l.number, name)
 		}
 	}
 }
 
-// checkQuiet checks how many packets the nodes send while nothing happens.
+// checkQuiet checks the number of packets that the nodes send while nothing happens.
 func (c *cluster) checkQuiet() {
 	before := c.network.traffic()
 	time.Sleep(quietTime)

@@ -2,20 +2,13 @@ package main
 
 import (
 	"runtime"
-	"sort"
 	"sync"
 	"time"
 
 	"kitchenrue.example/simulation/disk"
 )
 
-// sorted returns names in order.
-func sorted(names []string) []string {
-	sort.Strings(names)
-	return names
-}
-
-// checkEnd ends all nodes. Nothing may be left of them: no goroutine, no open file and no stream.
+// checkEnd ends all nodes. After that, there must be no goroutine, no open file and no stream left.
 func (c *cluster) checkEnd() {
 	lives := c.lives()
 	var ending sync.WaitGroup
@@ -41,7 +34,7 @@ func (c *cluster) checkEnd() {
 	}
 }
 
-// maxStacks is how many bytes of stacks are reported.
+// maxStacks is the maximum number of bytes of stacks in a report.
 const maxStacks = 3000
 
 // goroutines returns the stacks of the goroutines.

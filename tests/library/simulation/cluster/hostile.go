@@ -12,7 +12,7 @@ import (
 // strangerAddress is the address of the hostile member.
 const strangerAddress = "10.0.9.9:7946"
 
-// Numbers of memberlist's and of Serf's messages that the hostile member sends.
+// The numbers of the messages of memberlist and of Serf that the hostile member sends.
 const (
 	userMessage   = 8
 	checksummed   = 12
@@ -25,29 +25,29 @@ const (
 const hostilePause = 50 * time.Millisecond
 
 // attack sends packets of the hostile member to random nodes until the step is over.
-func (c *cluster) attack(s step, packet func(rng *rand.Rand) []byte) {
+func (c *cluster) attack(s step, makePacket func(rng *rand.Rand) []byte) {
 	rng := rand.New(rand.NewSource(s.seed))
-	for end := time.Now().Add(s.lasts); time.Now().Before(end) && !c.isHealed.Load(); {
-		if made := packet(rng); made != nil {
+	for end := time.Now().Add(s.duration); time.Now().Before(end) && !c.isHealed.Load(); {
+		if made := makePacket(rng); made != nil {
 			c.network.send(strangerAddress, c.nodes[rng.Intn(len(c.nodes))].address, made)
 		}
 		time.Sleep(time.Duration(rng.ExpFloat64() * float64(hostilePause)))
 	}
 }
 
-// recorded returns a packet that a node sent before.
-func (c *cluster) recorded(rng *rand.Rand) []byte {
+// recordedPacket returns a packet that the hostile member recorded earlier.
+func (c *cluster) recordedPacket(rng *rand.Rand) []byte {
 	c.network.mu.Lock()
 	defer c.network.mu.Unlock()
-	if len(c.network.seen) == 0 {
+	if len(c.network.recordedPackets) == 0 {
 		return nil
 	}
-	return append([]byte(nil), c.network.seen[rng.Intn(len(c.network.seen))]...)
+	return append([]byte(nil), c.network.recordedPackets[rng.Intn(len(c.network.recordedPackets))]...)
 }
 
-// garbage returns a recorded packet with changed bytes and without its checksum, or random bytes.
-func (c *cluster) garbage(rng *rand.Rand) []byte {
-	packet := c.recorded(rng)
+// garbagePacket returns a recorded packet with changed bytes and without its checksum, or random bytes.
+func (c *cluster) garbagePacket(rng *rand.Rand) []byte {
+	packet := c.recordedPacket(rng)
 	if packet == nil || rng.Intn(4) == 0 {
 		packet = make([]byte, 1+rng.Intn(200))
 		rng.Read(packet)
@@ -62,26 +62,26 @@ func (c *cluster) garbage(rng *rand.Rand) []byte {
 	return packet
 }
 
-// text returns the encoding of a short text.
-func text(value string) []byte { return append([]byte{0xa0 | byte(len(value))}, value...) }
+// encodeText returns a short text in MessagePack's encoding.
+func encodeText(value string) []byte { return append([]byte{0xa0 | byte(len(value))}, value...) }
 
 // eventPacket returns the packet of an event.
 func eventPacket(at uint64, name string) []byte {
 	packet := []byte{userMessage, eventMessage, 0x84}
-	packet = append(append(packet, text("LTime")...), 0xcf)
+	packet = append(append(packet, encodeText("LTime")...), 0xcf)
 	packet = binary.BigEndian.AppendUint64(packet, at)
-	packet = append(append(packet, text("Name")...), text(name)...)
-	packet = append(append(packet, text("Payload")...), text("forged")...)
-	return append(append(packet, text("CC")...), 0xc2)
+	packet = append(append(packet, encodeText("Name")...), encodeText(name)...)
+	packet = append(append(packet, encodeText("Payload")...), encodeText("forged")...)
+	return append(append(packet, encodeText("CC")...), 0xc2)
 }
 
-// farTime returns the packet of an event of an implausibly far time.
-func (c *cluster) farTime(rng *rand.Rand) []byte {
+// farPacket returns the packet of an event whose time is implausibly far ahead.
+func (c *cluster) farPacket(rng *rand.Rand) []byte {
 	return eventPacket(1<<63+uint64(rng.Int63()), fmt.Sprint("far", rng.Intn(100)))
 }
 
-// forgedEvent returns the packet of an event that nobody fired, at about the present time.
-func (c *cluster) forgedEvent(rng *rand.Rand) []byte {
+// forgedPacket returns the packet of an event that nobody fired, with a time close to the present one.
+func (c *cluster) forgedPacket(rng *rand.Rand) []byte {
 	c.ledger.mu.Lock()
 	largest := serf.LamportTime(0)
 	for _, h := range c.ledger.histories {

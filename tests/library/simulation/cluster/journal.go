@@ -10,7 +10,8 @@ import (
 	"time"
 )
 
-// journal is the log of a run. Each line has its virtual time. Without a file, only the hash of all lines is kept.
+// journal is the log of a run. Each line has its virtual time. If there is no file, the journal keeps only the hash of
+// all lines.
 type journal struct {
 	mu    sync.Mutex
 	began time.Time
@@ -41,8 +42,8 @@ func (j *journal) add(format string, values ...interface{}) {
 	}
 }
 
-// of returns a writer for the log of a node. Without a file, it drops what is written.
-func (j *journal) of(name string) io.Writer {
+// writerFor returns a writer for the log of a node. If there is no file, the writer drops everything.
+func (j *journal) writerFor(name string) io.Writer {
 	if j.file == nil {
 		return io.Discard
 	}
@@ -62,7 +63,7 @@ func (l nodeLog) Write(line []byte) (int, error) {
 	return len(line), nil
 }
 
-// sum returns the hash of all lines, and writes what is buffered.
+// sum returns the hash of all lines, and writes the buffered lines to the file.
 func (j *journal) sum() uint64 {
 	j.mu.Lock()
 	defer j.mu.Unlock()

@@ -12,7 +12,7 @@ import (
 	"kitchenrue.example/serfagent"
 )
 
-// delivery is an event or a query as a node handed it out.
+// delivery is an event or a query that a node handed out.
 type delivery struct {
 	isQuery       bool
 	time          serf.LamportTime
@@ -26,57 +26,59 @@ func (d delivery) String() string {
 	return fmt.Sprintf("event %s at time %d", d.name, d.time)
 }
 
-// firing is an event or a query that a node was to fire.
+// firing is a call of a node that fires an event or a query.
 type firing struct {
 	node, life int
 	payload    string
-	// order is the number of the firing, at when it began, and time its time if the node accepted it.
+	// order is the number of the firing, at is the moment when it began, and time is its Lamport time if the node
+	// accepted it.
 	order      int
 	at         time.Time
 	time       serf.LamportTime
 	isAccepted bool
-	// isRefused: the node returned an error other than that of a failed disk, so the event is handed out nowhere.
+	// isRefused is true if the node returned an error other than that of a failed disk. Then no node may hand out the
+	// event.
 	isRefused bool
 }
 
-// history is what a node did in all its lives.
+// history is the record of a node's deliveries and answers in all its lives.
 type history struct {
-	// handed has the life in which the node handed something out, and names has the names of that.
-	handed map[delivery]int
-	names  map[string]bool
+	// deliveries has the life in which the node handed out each delivery, and names has the names of all deliveries.
+	deliveries map[delivery]int
+	names      map[string]bool
 	// largest is the largest time of an event that the node handed out, or that it fired and accepted.
 	largest serf.LamportTime
-	// answered are the queries that the node answered.
+	// answered has the queries that the node answered.
 	answered map[string]bool
 }
 
-// ledger records what the nodes of a cluster fire and hand out, and each promise that is broken.
+// ledger records what the nodes of a cluster fire and hand out, and which promises were broken.
 type ledger struct {
 	journal *journal
 
-	mu         sync.Mutex
-	violations []string
-	firings    map[string]*firing
-	histories  []*history
-	forged     map[string]bool
-	attempts   int
-	accepted   int
-	handed     int
-	// isForgeable: a hostile member changed packets, so events that nobody fired may be handed out.
+	mu            sync.Mutex
+	violations    []string
+	firings       map[string]*firing
+	histories     []*history
+	forged        map[string]bool
+	attempts      int
+	accepted      int
+	deliveryCount int
+	// isForgeable is true if a hostile member changed packets. Then nodes may hand out events that nobody fired.
 	isForgeable bool
-	// ended, if it isn't nil, is called at the first broken promise.
-	ended func()
+	// onViolation, if it isn't nil, is called at the first broken promise.
+	onViolation func()
 }
 
 func newLedger(j *journal, nodes int, isForgeable bool) *ledger {
 	l := &ledger{journal: j, firings: map[string]*firing{}, forged: map[string]bool{}, isForgeable: isForgeable}
 	for i := 0; i < nodes; i++ {
-		l.histories = append(l.histories, &history{handed: map[delivery]int{}, names: map[string]bool{}, answered: map[string]bool{}})
+		l.histories = append(l.histories, &history{deliveries: map[delivery]int{}, names: map[string]bool{}, answered: map[string]bool{}})
 	}
 	return l
 }
 
-// maxViolations is how many broken promises are reported.
+// maxViolations is the maximum number of broken promises that are reported.
 const maxViolations = 20
 
 // violate records that a promise is broken.
@@ -86,19 +88,21 @@ func (l *ledger) violate(promise, format string, values ...interface{}) {
 	l.violateLocked(promise, format, values...)
 }
 
+// violateLocked is violate with mu held.
 func (l *ledger) violateLocked(promise, format string, values ...interface{}) {
 	text := promise + ": " + fmt.Sprintf(format, values...)
 	l.journal.add("VIOLATION %s", text)
 	if len(l.violations) < maxViolations {
 		l.violations = append(l.violations, fmt.Sprintf("%.6f s: %s", l.journal.elapsed().Seconds(), text))
 	}
-	if l.ended != nil {
-		l.ended()
+	if l.onViolation != nil {
+		l.onViolation()
 	}
 }
 
-// begin records that a node is to fire something, and returns the name for it and the largest time of the node until then.
-func (l *ledger) begin(prefix string, node, life int, payload func(name string) string) (name string, largest serf.LamportTime) {
+// beginFiring records that a node is about to fire something. It returns a name for it, and the largest Lamport time
+// that the node had handed out or fired by then.
+func (l *ledger) beginFiring(prefix string, node, life int, payload func(name string) string) (name string, largest serf.LamportTime) {
 	l.mu.Lock()
 	defer l.mu.Unlock()
 	l.attempts++
@@ -107,21 +111,22 @@ func (l *ledger) begin(prefix string, node, life int, payload func(name string) 
 	return name, l.histories[node].largest
 }
 
-// payloadOf returns the payload with which something is fired.
+// payloadOf returns the payload of the firing with this name.
 func (l *ledger) payloadOf(name string) []byte {
 	l.mu.Lock()
 	defer l.mu.Unlock()
 	return []byte(l.firings[name].payload)
 }
 
-// fired records the result of firing an event. before is the largest time of the node when the firing began.
-func (l *ledger) fired(name string, at, before serf.LamportTime, err error) {
+// recordFiring records the result of firing an event. before is the largest Lamport time of the node when the firing
+// began.
+func (l *ledger) recordFiring(name string, at, largestBefore serf.LamportTime, err error) {
 	l.mu.Lock()
 	defer l.mu.Unlock()
 	f := l.firings[name]
 	l.journal.add("fired n%d.%d %s %d %v", f.node, f.life, name, at, err)
 	if err != nil {
-		// (a disk that fails may keep the line all the same, and then the next life restores the event and sends it)
+		// (a failed disk may keep the event's line nevertheless; then the next life restores the event and sends it)
 		f.isRefused = !errors.Is(err, serfagent.ErrFailed)
 		for i, h := range l.histories {
 			if h.names[name] {
@@ -132,30 +137,31 @@ func (l *ledger) fired(name string, at, before serf.LamportTime, err error) {
 	}
 	f.isAccepted, f.time = true, at
 	l.accepted++
-	if at <= before {
+	if at <= largestBefore {
 		l.violateLocked("later", "n%d.%d fired event %s at time %d, after it had handed out or fired one of time %d",
-			f.node, f.life, name, at, before)
+			f.node, f.life, name, at, largestBefore)
 	}
 	if h := l.histories[f.node]; at > h.largest {
 		h.largest = at
 	}
 }
 
-// hand records that a node handed something out.
-func (l *ledger) hand(node, life int, d delivery) {
+// recordDelivery records that a node handed out an event or a query.
+func (l *ledger) recordDelivery(node, life int, d delivery) {
 	l.mu.Lock()
 	defer l.mu.Unlock()
-	l.handed++
+	l.deliveryCount++
 	l.journal.add("handed out n%d.%d %s", node, life, d)
 	h := l.histories[node]
-	// (a query with changed bytes may be another query of the same name and time: its id isn't visible here)
-	if earlier, ok := h.handed[d]; ok && !(d.isQuery && l.isForgeable) {
+	// (if a hostile member changed bytes, this may be another query with the same name and time; its ID isn't visible
+	// here)
+	if earlier, ok := h.deliveries[d]; ok && !(d.isQuery && l.isForgeable) {
 		l.violateLocked("once", "n%d handed out %s in life %d and again in life %d", node, d, earlier, life)
 	}
 	if d.time >= serf.FarTime && !l.isForgeable {
 		l.violateLocked("far", "n%d handed out %s, which is implausibly far", node, d)
 	}
-	h.handed[d] = life
+	h.deliveries[d] = life
 	h.names[d.name] = true
 	if !d.isQuery && d.time > h.largest {
 		h.largest = d.time
@@ -174,15 +180,15 @@ func (l *ledger) hand(node, life int, d delivery) {
 	}
 }
 
-// hasHanded reports whether a node handed out something of this name.
-func (l *ledger) hasHanded(node int, name string) bool {
+// hasHandedOut reports whether a node handed out an event or a query with this name.
+func (l *ledger) hasHandedOut(node int, name string) bool {
 	l.mu.Lock()
 	defer l.mu.Unlock()
 	return l.histories[node].names[name]
 }
 
-// answer records that a node answered a query.
-func (l *ledger) answer(node int, query string) {
+// recordAnswer records that a node answered a query.
+func (l *ledger) recordAnswer(node int, query string) {
 	l.mu.Lock()
 	defer l.mu.Unlock()
 	l.histories[node].answered[query] = true
@@ -195,14 +201,15 @@ func (l *ledger) hasAnswered(node int, query string) bool {
 	return l.histories[node].answered[query]
 }
 
-// addForged records the name of an event that a hostile member makes.
+// addForged records the name of an event that a hostile member forges.
 func (l *ledger) addForged(name string) {
 	l.mu.Lock()
 	defer l.mu.Unlock()
 	l.forged[name] = true
 }
 
-// acceptedIf returns the names of the accepted events for which a condition holds, in the order in which they were fired.
+// acceptedIf returns the names of the accepted events for which holds returns true, in the order in which they were
+// fired.
 func (l *ledger) acceptedIf(holds func(f *firing) bool) []string {
 	l.mu.Lock()
 	defer l.mu.Unlock()
@@ -216,14 +223,14 @@ func (l *ledger) acceptedIf(holds func(f *firing) bool) []string {
 	return names
 }
 
-// attemptsUntilNow returns how many firings began.
-func (l *ledger) attemptsUntilNow() int {
+// firingsBegun returns how many firings have begun until now.
+func (l *ledger) firingsBegun() int {
 	l.mu.Lock()
 	defer l.mu.Unlock()
 	return l.attempts
 }
 
-// isFlushed reports whether a flushed text says that what was handed out may not be handed out again.
+// isFlushed reports whether a restart from a flushed text would not hand out this delivery again.
 func isFlushed(text []byte, d delivery, keepsEvents bool, buffer int) bool {
 	prefix, kept := "event-clock: ", "#event "
 	if d.isQuery {

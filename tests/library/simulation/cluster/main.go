@@ -4,7 +4,7 @@
 //
 //	cluster -seed N -out FILE [-log FILE] [-length D] [-nodes N] [-first N] [-without N,N,..] [-planted NAME] [-stop] [-steps]
 //
-// tests/library/simulation.py builds it, and has what its flags are for.
+// tests/library/simulation.py builds this program, and explains its flags.
 package main
 
 import (
@@ -24,7 +24,7 @@ import (
 	"kitchenrue.example/simulation/planted"
 )
 
-// steadyRandom is what programs read as random bytes of the system.
+// steadyRandom replaces the system's source of random bytes, so that each run reads the same bytes.
 type steadyRandom struct {
 	mu  sync.Mutex
 	rng *rand.Rand
@@ -36,8 +36,8 @@ func (r *steadyRandom) Read(data []byte) (int, error) {
 	return r.rng.Read(data)
 }
 
-// numbers reads a list of numbers.
-func numbers(list string) (map[int]bool, error) {
+// parseNumbers parses a list of numbers that are separated by commas.
+func parseNumbers(list string) (map[int]bool, error) {
 	found := map[int]bool{}
 	for _, word := range strings.FieldsFunc(list, func(r rune) bool { return r == ',' }) {
 		number, err := strconv.Atoi(word)
@@ -66,12 +66,12 @@ func main() {
 		log.Fatal(err)
 	}
 	defer file.Close()
-	left, err := numbers(*without)
+	omitted, err := parseNumbers(*without)
 	if err != nil {
 		log.Fatal(err)
 	}
 	p := newPlan(*seed, *length, *nodes)
-	p.reduce(left, *first)
+	p.reduce(omitted, *first)
 	if *listSteps {
 		for _, s := range p.steps {
 			fmt.Fprintf(file, "step %s\n", s)
@@ -83,27 +83,27 @@ func main() {
 	}
 }
 
-// run runs a plan, and returns how many promises were broken. If stops is set, it exits at the first one.
+// run runs a plan, and returns the number of broken promises. If stops is set, it exits at the first one.
 func run(p plan, seed int64, logFile string, out io.Writer, stops bool) int {
 	// (cluster.sample collects garbage)
 	debug.SetGCPercent(-1)
 	rand.Seed(seed)
 	crand.Reader = &steadyRandom{rng: rand.New(rand.NewSource(seed))}
-	var full io.Writer
+	var fullLog io.Writer
 	if logFile != "" {
 		file, err := os.Create(logFile)
 		if err != nil {
 			log.Fatal(err)
 		}
 		defer file.Close()
-		full = file
+		fullLog = file
 	}
-	j := newJournal(full)
+	j := newJournal(fullLog)
 	log.SetOutput(io.Discard)
 	j.add("plan %+v", p.settings)
 	c := newCluster(p, seed, j)
 	if stops {
-		c.ledger.ended = func() {
+		c.ledger.onViolation = func() {
 			fmt.Fprintf(out, "violation %s\n", c.ledger.violations[0])
 			j.sum()
 			os.Exit(1)
@@ -129,6 +129,6 @@ func (c *cluster) writeCounts(out io.Writer, seed int64) {
 		}
 	}
 	fmt.Fprintf(out, "end seed %d nodes %d lives %d failures %d fired %d accepted %d handed %d packets %d seconds %.0f trace %016x\n",
-		seed, len(c.nodes), lives, failures, c.ledger.attempts, c.ledger.accepted, c.ledger.handed, c.network.traffic(),
+		seed, len(c.nodes), lives, failures, c.ledger.attempts, c.ledger.accepted, c.ledger.deliveryCount, c.network.traffic(),
 		c.journal.elapsed().Seconds(), c.journal.sum())
 }

@@ -11,7 +11,7 @@ import (
 	"github.com/hashicorp/memberlist"
 )
 
-// Limits of the network: how long a packet takes, how late a late packet may be, and how long it takes to open a stream.
+// Limits of the network: the delay of a packet, the delay of a late packet, and the time to open a stream.
 const (
 	minDelay     = 200 * time.Microsecond
 	delayRange   = 3 * time.Millisecond
@@ -19,7 +19,7 @@ const (
 	dialRange    = 5 * time.Millisecond
 )
 
-// Queues of an endpoint: packets beyond are lost, streams beyond are refused.
+// The lengths of an endpoint's queues. When a queue is full, further packets are lost, and further streams are refused.
 const (
 	queuedPackets = 4096
 	queuedStreams = 64
@@ -37,7 +37,8 @@ type address string
 func (address) Network() string  { return "simulated" }
 func (a address) String() string { return string(a) }
 
-// noise says which shares of the packets are lost, repeated and late. Streams can't be opened, or break, in the share that is lost.
+// noise has the shares of packets that are lost, repeated and late. The share of lost packets is also the share of
+// streams that can't be opened or that break.
 type noise struct {
 	lose, repeat, late float64
 }
@@ -49,20 +50,21 @@ type network struct {
 	mu        sync.Mutex
 	rng       *rand.Rand
 	endpoints map[string]*endpoint
-	// sides are the parts into which the network is cut, by address.
-	sides map[string]int
-	noise noise
-	// seen are packets that a hostile member recorded. recordShare is the share of packets that it records.
-	seen        [][]byte
-	recordShare float64
-	// relays is how many relayed messages were seen. Those in encrypted or compressed packets can't be seen.
+	// partOf maps each address to the number of its part, if the network is cut into parts.
+	partOf map[string]int
+	noise  noise
+	// recordedPackets has the packets that a hostile member recorded. recordShare is the share of packets that it records.
+	recordedPackets [][]byte
+	recordShare     float64
+	// relays counts the relayed messages that were seen. Messages in encrypted or compressed packets can't be seen.
 	relays int
-	// packets is how many packets were sent, and openStreams how many ends of streams were not closed by their owners.
+	// packets counts the packets that were sent. openStreams counts the ends of streams that their owners have not
+	// closed.
 	packets, openStreams int
 }
 
 func newNetwork(j *journal, rng *rand.Rand) *network {
-	return &network{journal: j, rng: rng, endpoints: map[string]*endpoint{}, sides: map[string]int{}}
+	return &network{journal: j, rng: rng, endpoints: map[string]*endpoint{}, partOf: map[string]int{}}
 }
 
 // setNoise replaces the noise.
@@ -72,14 +74,15 @@ func (n *network) setNoise(now noise) {
 	n.noise = now
 }
 
-// cut cuts the network into these parts, and breaks the streams between them. Without parts, the network is whole.
-func (n *network) cut(sides map[string]int) {
+// partition cuts the network into these parts, and breaks the streams between them. If there are no parts, the network is
+// whole.
+func (n *network) partition(partOf map[string]int) {
 	n.mu.Lock()
-	n.sides = sides
+	n.partOf = partOf
 	var broken []*stream
-	for _, e := range n.inOrder() {
-		for _, s := range e.streamsOf() {
-			if sides[string(s.local)] != sides[string(s.remote)] {
+	for _, e := range n.sortedEndpoints() {
+		for _, s := range e.sortedStreams() {
+			if partOf[string(s.local)] != partOf[string(s.remote)] {
 				broken = append(broken, s)
 			}
 		}
@@ -90,8 +93,8 @@ func (n *network) cut(sides map[string]int) {
 	}
 }
 
-// inOrder returns the endpoints in the order of their addresses. mu is held.
-func (n *network) inOrder() []*endpoint {
+// sortedEndpoints returns the endpoints in the order of their addresses. The caller holds mu.
+func (n *network) sortedEndpoints() []*endpoint {
 	var ordered []*endpoint
 	for _, e := range n.endpoints {
 		at := len(ordered)
@@ -110,7 +113,7 @@ func (n *network) traffic() int {
 	return n.packets
 }
 
-// streamsLeft returns how many ends of streams were not closed by their owners.
+// streamsLeft returns the number of ends of streams that their owners have not closed.
 func (n *network) streamsLeft() int {
 	n.mu.Lock()
 	defer n.mu.Unlock()
@@ -126,19 +129,19 @@ type endpoint struct {
 
 	mu     sync.Mutex
 	isDead bool
-	// ends are the ends of streams that this endpoint has.
-	ends map[*stream]bool
+	// openStreams has the open ends of streams that belong to this endpoint.
+	openStreams map[*stream]bool
 	// count is the number of the next stream.
 	count int
 }
 
 var _ memberlist.Transport = &endpoint{}
 
-// open makes the endpoint of an address, in place of an earlier one.
-func (n *network) open(at string) *endpoint {
+// openEndpoint makes the endpoint at an address. It replaces an earlier endpoint there.
+func (n *network) openEndpoint(at string) *endpoint {
 	e := &endpoint{
 		network: n, address: at, packets: make(chan *memberlist.Packet, queuedPackets), streams: make(chan net.Conn, queuedStreams),
-		ends: map[*stream]bool{},
+		openStreams: map[*stream]bool{},
 	}
 	n.mu.Lock()
 	defer n.mu.Unlock()
@@ -146,8 +149,8 @@ func (n *network) open(at string) *endpoint {
 	return e
 }
 
-// dead reports whether the endpoint was shut down, or its node was killed.
-func (e *endpoint) dead() bool {
+// hasEnded reports whether the endpoint was shut down or its node was killed.
+func (e *endpoint) hasEnded() bool {
 	e.mu.Lock()
 	defer e.mu.Unlock()
 	return e.isDead
@@ -158,7 +161,7 @@ func (e *endpoint) kill() {
 	e.mu.Lock()
 	e.isDead = true
 	e.mu.Unlock()
-	for _, s := range e.streamsOf() {
+	for _, s := range e.sortedStreams() {
 		s.Conn.Close()
 	}
 	for {
@@ -171,12 +174,12 @@ func (e *endpoint) kill() {
 	}
 }
 
-// streamsOf returns the streams in the order in which they were opened.
-func (e *endpoint) streamsOf() []*stream {
+// sortedStreams returns the streams in the order in which they were opened.
+func (e *endpoint) sortedStreams() []*stream {
 	e.mu.Lock()
 	defer e.mu.Unlock()
 	var ordered []*stream
-	for s := range e.ends {
+	for s := range e.openStreams {
 		at := len(ordered)
 		for at > 0 && ordered[at-1].number > s.number {
 			at--
@@ -206,7 +209,7 @@ func (e *endpoint) StreamCh() <-chan net.Conn { return e.streams }
 
 // WriteTo implements memberlist.Transport.
 func (e *endpoint) WriteTo(packet []byte, to string) (time.Time, error) {
-	if !e.dead() {
+	if !e.hasEnded() {
 		e.network.send(e.address, to, packet)
 	}
 	return time.Now(), nil
@@ -227,7 +230,7 @@ func (n *network) relaysSent() int {
 	return n.relays
 }
 
-// send sends a packet, with the failures of the network.
+// send sends a packet. The network may lose, repeat or delay it.
 func (n *network) send(from, to string, packet []byte) {
 	n.mu.Lock()
 	defer n.mu.Unlock()
@@ -239,10 +242,10 @@ func (n *network) send(from, to string, packet []byte) {
 		n.relays++
 	}
 	if n.recordShare > 0 && n.rng.Float64() < n.recordShare {
-		n.seen = append(n.seen, append([]byte(nil), packet...))
+		n.recordedPackets = append(n.recordedPackets, append([]byte(nil), packet...))
 	}
 	peer := n.endpoints[to]
-	if peer == nil || n.sides[from] != n.sides[to] || n.rng.Float64() < n.noise.lose {
+	if peer == nil || n.partOf[from] != n.partOf[to] || n.rng.Float64() < n.noise.lose {
 		return
 	}
 	count := 1
@@ -259,8 +262,9 @@ func (n *network) send(from, to string, packet []byte) {
 	}
 }
 
+// deliver passes a packet to the endpoint's node. The packet is lost if the queue is full.
 func (e *endpoint) deliver(from address, packet []byte) {
-	if e.dead() {
+	if e.hasEnded() {
 		return
 	}
 	select {
@@ -274,11 +278,11 @@ func (e *endpoint) DialTimeout(to string, timeout time.Duration) (net.Conn, erro
 	n := e.network
 	n.mu.Lock()
 	peer := n.endpoints[to]
-	isCut := peer == nil || n.sides[e.address] != n.sides[to] || n.rng.Float64() < n.noise.lose
+	isCut := peer == nil || n.partOf[e.address] != n.partOf[to] || n.rng.Float64() < n.noise.lose
 	delay := time.Duration(n.rng.Int63n(int64(dialRange)))
-	unbroken := -1
+	bytesUntilBreak := -1
 	if n.rng.Float64() < n.noise.lose {
-		unbroken = n.rng.Intn(2000)
+		bytesUntilBreak = n.rng.Intn(2000)
 	}
 	n.journal.add("dial %s %s", e.address, to)
 	n.mu.Unlock()
@@ -287,12 +291,12 @@ func (e *endpoint) DialTimeout(to string, timeout time.Duration) (net.Conn, erro
 		return nil, errTimeout
 	}
 	time.Sleep(delay)
-	if peer.dead() || e.dead() {
+	if peer.hasEnded() || e.hasEnded() {
 		return nil, errRefused
 	}
 	here, there := net.Pipe()
-	near := e.add(&stream{Conn: here, local: address(e.address), remote: address(to), unbroken: unbroken})
-	far := peer.add(&stream{Conn: there, local: address(to), remote: address(e.address), unbroken: unbroken})
+	near := e.addStream(&stream{Conn: here, local: address(e.address), remote: address(to), bytesUntilBreak: bytesUntilBreak})
+	far := peer.addStream(&stream{Conn: there, local: address(to), remote: address(e.address), bytesUntilBreak: bytesUntilBreak})
 	select {
 	case peer.streams <- far:
 		return near, nil
@@ -303,12 +307,13 @@ func (e *endpoint) DialTimeout(to string, timeout time.Duration) (net.Conn, erro
 	}
 }
 
-func (e *endpoint) add(s *stream) *stream {
+// addStream registers an end of a stream that belongs to this endpoint.
+func (e *endpoint) addStream(s *stream) *stream {
 	s.owner = e
 	e.mu.Lock()
 	e.count++
 	s.number = e.count
-	e.ends[s] = true
+	e.openStreams[s] = true
 	e.mu.Unlock()
 	e.network.mu.Lock()
 	defer e.network.mu.Unlock()
@@ -322,22 +327,23 @@ type stream struct {
 	owner         *endpoint
 	number        int
 	local, remote address
-	// unbroken is how many bytes this end can write until the stream breaks, or -1 if it doesn't.
-	unbroken int
-	close    sync.Once
+	// bytesUntilBreak is the number of bytes that this end can write until the stream breaks, or -1 if the stream doesn't
+	// break.
+	bytesUntilBreak int
+	close           sync.Once
 }
 
 func (s *stream) LocalAddr() net.Addr  { return s.local }
 func (s *stream) RemoteAddr() net.Addr { return s.remote }
 
 func (s *stream) Write(data []byte) (int, error) {
-	if s.unbroken >= 0 && len(data) > s.unbroken {
-		count, _ := s.Conn.Write(data[:s.unbroken])
+	if s.bytesUntilBreak >= 0 && len(data) > s.bytesUntilBreak {
+		count, _ := s.Conn.Write(data[:s.bytesUntilBreak])
 		s.Conn.Close()
 		return count, errBroken
 	}
-	if s.unbroken >= 0 {
-		s.unbroken -= len(data)
+	if s.bytesUntilBreak >= 0 {
+		s.bytesUntilBreak -= len(data)
 	}
 	return s.Conn.Write(data)
 }
@@ -345,7 +351,7 @@ func (s *stream) Write(data []byte) (int, error) {
 func (s *stream) Close() error {
 	s.close.Do(func() {
 		s.owner.mu.Lock()
-		delete(s.owner.ends, s)
+		delete(s.owner.openStreams, s)
 		s.owner.mu.Unlock()
 		s.owner.network.mu.Lock()
 		s.owner.network.openStreams--

@@ -17,8 +17,9 @@ import (
 // port is the port of all nodes.
 const port = 7946
 
-// Times of a node: how long a flush of a healthy disk takes, how soon a start that failed is tried again, and how long a node waits for the
-// members of its snapshot before it joins others by their addresses.
+// Times of a node. For example, minFlush and maxFlush limit a flush of a healthy disk, retryAfter is the time until a
+// failed start is repeated, and joinAfter is how long a node waits for the members of its snapshot before it joins
+// others by their addresses.
 const (
 	minFlush        = 100 * time.Microsecond
 	maxFlush        = 5 * time.Millisecond
@@ -30,7 +31,7 @@ const (
 	slowReaderPause = 700 * time.Millisecond
 )
 
-// node is a machine on which a node runs, life after life.
+// node is a machine that runs one life of a node after another.
 type node struct {
 	cluster       *cluster
 	number        int
@@ -42,11 +43,11 @@ type node struct {
 	isStarting bool
 	lives      int
 	disk       *disk.Disk
-	// What is wrong with the disk, until it is repaired.
+	// The defects of the disk, until it is repaired.
 	isDiskFull bool
 	failing    float64
 	maxFlush   time.Duration
-	// hadBadDisk: the disk was full or failed since the present life began.
+	// hadBadDisk is true if the disk was full or failing at any time since the present life began.
 	hadBadDisk bool
 }
 
@@ -59,9 +60,9 @@ type life struct {
 	disk     *disk.Disk
 	events   chan serf.Event
 	rng      *rand.Rand
-	// isCut: the life was ended by a kill or a power cut. What the old process still does is not seen by anybody.
-	isCut atomic.Bool
-	// isEnding: the node was asked to end.
+	// hasCrashed is true if a kill or a power cut ended the life. After that, nobody sees what the old process still does.
+	hasCrashed atomic.Bool
+	// isEnding is true after the node was asked to end.
 	isEnding     atomic.Bool
 	isSlow       atomic.Bool
 	wasSlow      atomic.Bool
@@ -79,13 +80,14 @@ func newNode(c *cluster, number int) *node {
 	return n
 }
 
-// root is the root of the disk of the next life.
+// root returns the root of the next life's disk.
 func (n *node) root() string { return fmt.Sprintf("/n%d.%d", n.number, n.lives) }
 
-// snapshot is the path of the node's file on a disk.
+// snapshot returns the path of the node's snapshot on a disk.
 func snapshot(d *disk.Disk) string { return d.Root() + "/snapshot" }
 
-// applyDiskState makes the present disk as bad as the machine's is. mu is held, or the node is new.
+// applyDiskState makes the present disk as defective as the machine's disk. The caller holds mu, or the node is
+// new.
 func (n *node) applyDiskState() {
 	n.disk.SetFull(n.isDiskFull)
 	n.disk.SetFailing(n.failing)
@@ -93,7 +95,7 @@ func (n *node) applyDiskState() {
 	n.hadBadDisk = n.hadBadDisk || n.isDiskFull || n.failing > 0
 }
 
-// setDiskState changes what is wrong with the disk.
+// setDiskState changes the defects of the disk.
 func (n *node) setDiskState(change func()) {
 	n.mu.Lock()
 	defer n.mu.Unlock()
@@ -101,8 +103,8 @@ func (n *node) setDiskState(change func()) {
 	n.applyDiskState()
 }
 
-// living returns the present life, or nil if the node is down.
-func (n *node) living() *life {
+// currentLife returns the present life, or nil if the node is down.
+func (n *node) currentLife() *life {
 	n.mu.Lock()
 	defer n.mu.Unlock()
 	return n.current
@@ -113,7 +115,7 @@ func (n *node) config(l *life) *serf.Config {
 	settings := n.cluster.plan.settings
 	config := serf.DefaultConfig()
 	config.NodeName, config.SnapshotPath, config.EventCh = n.name, snapshot(l.disk), l.events
-	config.LogOutput = n.cluster.journal.of(fmt.Sprintf("n%d.%d", n.number, l.number))
+	config.LogOutput = n.cluster.journal.writerFor(fmt.Sprintf("n%d.%d", n.number, l.number))
 	config.EventBuffer, config.QueryBuffer = settings.eventBuffer, settings.eventBuffer
 	config.KeepEvents = settings.keepsEvents
 	if settings.coalescePeriod > 0 {
@@ -132,7 +134,7 @@ func (n *node) config(l *life) *serf.Config {
 	return config
 }
 
-// start begins the next life. If that fails, as it does on a full disk, it is tried again later.
+// start begins the next life. If the start fails, for example because the disk is full, it is repeated later.
 func (n *node) start() {
 	n.mu.Lock()
 	if n.isStarting || n.current != nil {
@@ -142,7 +144,7 @@ func (n *node) start() {
 	n.isStarting = true
 	n.hadBadDisk = n.isDiskFull || n.failing > 0
 	l := &life{
-		node: n, number: n.lives, endpoint: n.cluster.network.open(n.address), disk: n.disk, events: make(chan serf.Event),
+		node: n, number: n.lives, endpoint: n.cluster.network.openEndpoint(n.address), disk: n.disk, events: make(chan serf.Event),
 		rng: n.cluster.newRand(), began: time.Now(),
 	}
 	n.lives++
@@ -162,11 +164,12 @@ func (n *node) start() {
 		return
 	}
 	n.current = l
-	go l.read()
+	go l.receiveEvents()
 	go l.join()
 }
 
-// join joins the other nodes. A later life first waits for the members of its snapshot.
+// join joins the other nodes. If the life isn't the node's first one, it waits for the members of its snapshot before
+// that.
 func (l *life) join() {
 	wait := time.Duration(0)
 	if l.number > 0 {
@@ -174,7 +177,7 @@ func (l *life) join() {
 	}
 	for ; ; wait = joinRetryAfter {
 		time.Sleep(wait)
-		if l.isCut.Load() || l.isEnding.Load() || l.serf.State() != serf.SerfAlive || l.knowsOthers() {
+		if l.hasCrashed.Load() || l.isEnding.Load() || l.serf.State() != serf.SerfAlive || l.knowsOthers() {
 			return
 		}
 		for _, other := range l.node.cluster.nodes {
@@ -204,9 +207,9 @@ func (l *life) alive() (count int) {
 	return count
 }
 
-// end takes this life off the node, if it is the present one, and calls next for the disk of the next life. The node starts again after a
-// while.
-func (l *life) end(next func(root string) *disk.Disk) bool {
+// detach ends this life if it is the node's present one. It calls next for the disk of the next life, which starts after a
+// random delay.
+func (l *life) detach(nextDisk func(root string) *disk.Disk) bool {
 	n := l.node
 	n.mu.Lock()
 	defer n.mu.Unlock()
@@ -214,7 +217,7 @@ func (l *life) end(next func(root string) *disk.Disk) bool {
 		return false
 	}
 	n.current = nil
-	n.disk = next(n.root())
+	n.disk = nextDisk(n.root())
 	n.applyDiskState()
 	delay := time.Duration(l.rng.ExpFloat64() * float64(restartMean))
 	n.cluster.journal.add("end n%d.%d, restart in %v", n.number, l.number, delay)
@@ -222,33 +225,33 @@ func (l *life) end(next func(root string) *disk.Disk) bool {
 	return true
 }
 
-// cut ends the life at once: by a kill of its process, or by a power cut.
-func (l *life) cut(isPowerCut bool) {
+// crash ends the life at once, by a kill of its process or by a power cut.
+func (l *life) crash(isPowerCut bool) {
 	n := l.node
 	n.mu.Lock()
 	isCurrent := n.current == l
 	if isCurrent {
-		l.isCut.Store(true)
+		l.hasCrashed.Store(true)
 	}
 	n.mu.Unlock()
 	if !isCurrent {
 		return
 	}
-	next := l.disk.AfterKill
+	nextDisk := l.disk.AfterKill
 	if isPowerCut {
-		next = l.disk.AfterPowerCut
+		nextDisk = l.disk.AfterPowerCut
 	}
-	l.end(next)
+	l.detach(nextDisk)
 	l.endpoint.kill()
-	// What the old process does from now on concerns nobody. It only has to end.
+	// From now on, nobody sees what the old process does. It only has to end.
 	go func() {
 		l.serf.Shutdown()
 		l.disk.Remove()
 	}()
 }
 
-// stop ends the life in order, after a leave if isLeaving is set.
-func (l *life) stop(isLeaving bool) {
+// shutDown ends the life in an orderly way. If isLeaving is set, the node leaves first.
+func (l *life) shutDown(isLeaving bool) {
 	if l.isEnding.Swap(true) {
 		return
 	}
@@ -259,30 +262,30 @@ func (l *life) stop(isLeaving bool) {
 		}
 	}
 	l.serf.Shutdown()
-	if !l.isCut.Load() && !l.wasSlow.Load() {
+	if !l.hasCrashed.Load() && !l.wasSlow.Load() {
 		l.checkOwn(own)
 	}
-	if l.end(l.disk.AfterKill) {
+	if l.detach(l.disk.AfterKill) {
 		l.disk.Remove()
 	}
 }
 
-// read receives what the node hands out.
-func (l *life) read() {
+// receiveEvents receives the events and queries that the node hands out.
+func (l *life) receiveEvents() {
 	for {
 		select {
 		case e := <-l.events:
-			l.receive(e)
+			l.handleEvent(e)
 		case <-l.serf.ShutdownCh():
-			l.hasEnded()
+			l.handleEnd()
 			return
 		}
 	}
 }
 
-// hasEnded handles the end of the node. Without a reason to end, a node may not.
-func (l *life) hasEnded() {
-	if l.isCut.Load() {
+// handleEnd handles the end of the node. It is a broken promise if the node ended without a reason.
+func (l *life) handleEnd() {
+	if l.hasCrashed.Load() {
 		return
 	}
 	reason := l.serf.Fault()
@@ -293,28 +296,28 @@ func (l *life) hasEnded() {
 	if !isExcused {
 		l.node.cluster.ledger.violate("up", "n%d.%d ended by itself, and its disk was healthy: %v", l.node.number, l.number, reason)
 	}
-	if !l.isEnding.Load() && l.end(l.disk.AfterKill) {
+	if !l.isEnding.Load() && l.detach(l.disk.AfterKill) {
 		l.disk.Remove()
 	}
 }
 
-// receive handles what the node handed out: the program's part.
-func (l *life) receive(e serf.Event) {
-	if l.isCut.Load() {
+// handleEvent handles an event or a query that the node handed out, as a program on the node would.
+func (l *life) handleEvent(e serf.Event) {
+	if l.hasCrashed.Load() {
 		return
 	}
 	ledger := l.node.cluster.ledger
 	switch e := e.(type) {
 	case serf.UserEvent:
-		handed := delivery{false, e.LTime, e.Name, string(e.Payload)}
-		ledger.hand(l.node.number, l.number, handed)
-		l.checkFlushed(handed)
+		delivered := delivery{false, e.LTime, e.Name, string(e.Payload)}
+		ledger.recordDelivery(l.node.number, l.number, delivered)
+		l.checkFlushed(delivered)
 	case *serf.Query:
-		handed := delivery{true, e.LTime, e.Name, string(e.Payload)}
-		ledger.hand(l.node.number, l.number, handed)
-		l.checkFlushed(handed)
+		delivered := delivery{true, e.LTime, e.Name, string(e.Payload)}
+		ledger.recordDelivery(l.node.number, l.number, delivered)
+		l.checkFlushed(delivered)
 		if l.rng.Intn(8) > 0 || l.node.cluster.isFinal.Load() {
-			ledger.answer(l.node.number, e.Name)
+			ledger.recordAnswer(l.node.number, e.Name)
 			if err := e.Respond([]byte(answerOf(e.Name, l.node.name))); err != nil {
 				l.node.cluster.journal.add("respond n%d.%d %s %v", l.node.number, l.number, e.Name, err)
 			}
@@ -323,21 +326,22 @@ func (l *life) receive(e serf.Event) {
 		return
 	}
 	if l.cutAtHandOut.Swap(false) {
-		l.cut(true)
+		l.crash(true)
 	} else if l.isSlow.Load() {
 		time.Sleep(slowReaderPause)
 	}
 }
 
-// answerOf returns what a node answers to a query.
+// answerOf returns the payload with which a node answers a query.
 func answerOf(query, node string) string { return query + " from " + node }
 
-// checkFlushed checks that a power cut at this moment leaves a line that keeps the next life from handing this out again.
-func (l *life) checkFlushed(handed delivery) {
+// checkFlushed checks that a line that prevents a second delivery is already on the disk. After a power cut at this
+// moment, the next life then doesn't hand out the same thing again.
+func (l *life) checkFlushed(delivered delivery) {
 	settings := l.node.cluster.plan.settings
 	for _, text := range l.disk.FlushedTexts(snapshot(l.disk)) {
-		if !isFlushed(text, handed, settings.keepsEvents, settings.eventBuffer) {
-			l.node.cluster.ledger.violate("flushed", "n%d.%d handed out %s before its line was on the disk", l.node.number, l.number, handed)
+		if !isFlushed(text, delivered, settings.keepsEvents, settings.eventBuffer) {
+			l.node.cluster.ledger.violate("flushed", "n%d.%d handed out %s before its line was on the disk", l.node.number, l.number, delivered)
 			return
 		}
 	}
@@ -348,27 +352,28 @@ func (l *life) fire(rng *rand.Rand) string {
 	ledger, n := l.node.cluster.ledger, l.node
 	body := make([]byte, rng.Intn(60))
 	rng.Read(body)
-	name, before := ledger.begin("e", n.number, l.number, func(name string) string { return fmt.Sprintf("%s %x", name, body) })
+	name, before := ledger.beginFiring("e", n.number, l.number, func(name string) string { return fmt.Sprintf("%s %x", name, body) })
 	fired, err := l.serf.Fire(name, ledger.payloadOf(name), rng.Intn(2) == 0)
-	if !l.isCut.Load() {
-		ledger.fired(name, fired, before, err)
+	if !l.hasCrashed.Load() {
+		ledger.recordFiring(name, fired, before, err)
 	}
 	return name
 }
 
-// maxQueryDelay is how long after its deadline a query may be open, since the node may wait for its disk.
+// maxQueryDelay is how long a query may stay open after its deadline, since the node may be waiting for its disk.
 const maxQueryDelay = 30 * time.Second
 
-// query fires a query, and checks its responses. It returns the names of the nodes that answered, after the query was closed.
+// query fires a query, and checks its responses. After the query was closed, it returns the names of the nodes that
+// answered.
 func (l *life) query(rng *rand.Rand, params *serf.QueryParam) (answers map[string]bool) {
 	ledger, n := l.node.cluster.ledger, l.node
-	name, _ := ledger.begin("q", n.number, l.number, func(name string) string { return "about " + name })
+	name, _ := ledger.beginFiring("q", n.number, l.number, func(name string) string { return "about " + name })
 	if params == nil {
 		params = &serf.QueryParam{RequestAck: rng.Intn(2) == 0, RelayFactor: uint8(rng.Intn(4))}
 	}
 	response, err := l.serf.Query(name, ledger.payloadOf(name), params)
 	n.cluster.journal.add("query n%d.%d %s %v", n.number, l.number, name, err)
-	if err != nil || l.isCut.Load() {
+	if err != nil || l.hasCrashed.Load() {
 		return nil
 	}
 	answers = map[string]bool{}
@@ -377,12 +382,12 @@ func (l *life) query(rng *rand.Rand, params *serf.QueryParam) (answers map[strin
 	for {
 		select {
 		case answer, ok := <-response.ResponseCh():
-			if !ok || l.isCut.Load() {
+			if !ok || l.hasCrashed.Load() {
 				return answers
 			}
 			l.checkAnswer(name, answer, answers)
 		case <-closed.C:
-			if !l.isCut.Load() && !l.isEnding.Load() {
+			if !l.hasCrashed.Load() && !l.isEnding.Load() {
 				ledger.violate("closed", "query %s of n%d.%d is open %v after its deadline", name, n.number, l.number, maxQueryDelay)
 			}
 			return answers

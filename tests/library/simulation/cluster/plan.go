@@ -10,7 +10,7 @@ import (
 // kind is a kind of step.
 type kind string
 
-// The steps of a plan. The first two are what programs do, and the others are failures.
+// The kinds of steps. Programs on the nodes do the first two, and the others are failures.
 const (
 	fire  kind = "fire"
 	query kind = "query"
@@ -36,7 +36,7 @@ const (
 	forgeEvents   kind = "forge events"
 )
 
-// failures are the kinds of failures, each with the mean time between two of them in a cluster.
+// failures lists the kinds of failures. Each has the mean time between two of them in a cluster.
 var failures = []struct {
 	kind  kind
 	every time.Duration
@@ -61,22 +61,22 @@ var failures = []struct {
 	{forgeEvents, 2 * time.Minute},
 }
 
-// step is something that happens at a time, mostly to one node, and perhaps for some time.
+// step is something that happens at a time, mostly to one node. Some steps last for a while.
 type step struct {
-	number int
-	at     time.Duration
-	kind   kind
-	node   int
-	lasts  time.Duration
-	// seed is for what the step draws when it happens.
+	number   int
+	at       time.Duration
+	kind     kind
+	node     int
+	duration time.Duration
+	// seed determines the random choices that the step makes when it happens.
 	seed int64
 }
 
 func (s step) String() string {
-	return fmt.Sprintf("%d at %.3f s: %s, node %d, %.1f s", s.number, s.at.Seconds(), s.kind, s.node, s.lasts.Seconds())
+	return fmt.Sprintf("%d at %.3f s: %s, node %d, %.1f s", s.number, s.at.Seconds(), s.kind, s.node, s.duration.Seconds())
 }
 
-// settings are those of the nodes of a cluster.
+// settings has the settings of a cluster and of its nodes.
 type settings struct {
 	nodes                    int
 	eventBuffer              int
@@ -84,21 +84,21 @@ type settings struct {
 	coalescePeriod           time.Duration
 }
 
-// plan is what a seed stands for: the settings of a cluster and what happens to it.
+// plan is derived from a seed. It has the settings of a cluster and the steps that happen in it.
 type plan struct {
 	settings settings
 	length   time.Duration
 	steps    []step
 }
 
-// The limits of the number of nodes that a seed draws, and of how often something is fired.
+// Limits of the random choices: the number of nodes, and how often something is fired.
 const (
 	minNodes, nodesRange = 3, 4
 	minFireEvery         = 500 * time.Millisecond
 	fireEveryRange       = 4 * time.Second
 )
 
-// newPlan draws a plan. nodes replaces the number of nodes if it isn't 0.
+// newPlan derives a plan from a seed. If nodes isn't 0, it replaces the number of nodes that the seed determines.
 func newPlan(seed int64, length time.Duration, nodes int) plan {
 	rng := rand.New(rand.NewSource(seed))
 	drawn := plan{length: length, settings: settings{
@@ -117,7 +117,7 @@ func newPlan(seed int64, length time.Duration, nodes int) plan {
 	drawn.add(rng, query, 10*time.Second)
 	drawn.add(rng, join, 2*time.Minute)
 	for _, failure := range failures {
-		// (a run with all kinds at once hides what only a few of them do)
+		// (if a run had failures of all kinds at once, it would hide what a few of them cause alone)
 		if rng.Intn(5) < 2 {
 			drawn.add(rng, failure.kind, failure.every)
 		}
@@ -129,12 +129,12 @@ func newPlan(seed int64, length time.Duration, nodes int) plan {
 	return drawn
 }
 
-// add adds steps of a kind, with this mean time between two of them.
+// add adds steps of a kind. every is the mean time between two of them.
 func (p *plan) add(rng *rand.Rand, kind kind, every time.Duration) {
 	draw := func(mean time.Duration) time.Duration { return time.Duration(rng.ExpFloat64() * float64(mean)) }
 	for at := draw(every); at < p.length; at += draw(every) {
 		p.steps = append(p.steps, step{
-			at: at, kind: kind, node: rng.Intn(p.settings.nodes), lasts: draw(20 * time.Second), seed: rng.Int63(),
+			at: at, kind: kind, node: rng.Intn(p.settings.nodes), duration: draw(20 * time.Second), seed: rng.Int63(),
 		})
 	}
 }
@@ -142,7 +142,7 @@ func (p *plan) add(rng *rand.Rand, kind kind, every time.Duration) {
 // isFailure reports whether a step is a failure.
 func (s step) isFailure() bool { return s.kind != fire && s.kind != query && s.kind != join }
 
-// reduce drops the steps with these numbers, and those of nodes beyond a number, if that isn't 0.
+// reduce drops the steps with these numbers. If nodes isn't 0, it also drops the steps of nodes beyond that number.
 func (p *plan) reduce(without map[int]bool, nodes int) {
 	if nodes > 0 && nodes < p.settings.nodes {
 		p.settings.nodes = nodes

@@ -1,6 +1,6 @@
-// Package disk simulates disks in memory. A disk keeps what was flushed. Of what was written and not flushed, a power cut keeps any part:
-// whole writes, prefixes, single sectors, or nothing. The packages os, syscall and filepath next to it have the functions of Go's own
-// packages of these names that the stores call.
+// Package disk simulates disks in memory. A disk keeps everything that was flushed. If a write was not flushed, a power
+// cut may keep all of it, a prefix, single sectors, or nothing. The packages os, syscall and filepath next to this one
+// have the functions of Go's own packages of these names that the stores call.
 package disk
 
 import (
@@ -13,21 +13,23 @@ import (
 	"time"
 )
 
-// sectorBytes is the unit in which a disk writes: of a write that a power cut interrupts, each sector may be old or new.
+// sectorBytes is the unit in which a disk writes. If a power cut interrupts a write, each of its sectors may be old or
+// new.
 const sectorBytes = 512
 
 var (
-	mu    sync.Mutex
-	disks = map[string]*Disk{}
-	open  = map[int]*File{}
-	last  int
+	mu         sync.Mutex
+	disks      = map[string]*Disk{}
+	openFiles  = map[int]*File{}
+	lastNumber int
 )
 
 // Disk is the disk of one life of a node. Its files have paths below its root.
 type Disk struct {
 	root string
 	rng  *rand.Rand
-	// names are the files as the processes see them, and flushedNames those that a power cut leaves. changes are in between.
+	// names has the files that processes see, and flushedNames those that a power cut leaves. changes has the changes
+	// of names that were not flushed yet.
 	names, flushedNames map[string]*content
 	changes             []change
 
@@ -37,7 +39,8 @@ type Disk struct {
 	whileFlushing      func()
 }
 
-// change is a name that was given to a file, or removed if file is nil. A renamed file loses its earlier name in the same change.
+// change is a change of names: path now names file, or names nothing if file is nil. If the file was renamed, the same
+// change removes its earlier name.
 type change struct {
 	path    string
 	file    *content
@@ -52,7 +55,8 @@ func (c change) applyTo(names map[string]*content) {
 	delete(names, c.earlier)
 }
 
-// content is what a file contains: as processes read it, as it was flushed last, and the writes since then.
+// content is the content of a file: the bytes that processes read, the bytes that were last flushed, and the writes
+// that are pending since then.
 type content struct {
 	bytes, flushed []byte
 	pending        []write
@@ -60,13 +64,14 @@ type content struct {
 	lockedBy       *File
 }
 
-// write is bytes at an offset, or, if isCut is set, a change of the file's length to the offset.
+// write writes bytes at an offset. If isCut is set, it changes the file's length to the offset instead.
 type write struct {
 	offset int
 	bytes  []byte
 	isCut  bool
 }
 
+// applyTo applies the write to a file's bytes.
 func (w write) applyTo(text []byte) []byte {
 	if w.isCut {
 		return resized(text, w.offset)
@@ -78,6 +83,7 @@ func (w write) applyTo(text []byte) []byte {
 	return text
 }
 
+// resized returns bytes that are cut off or extended by zeros to this length.
 func resized(text []byte, length int) []byte {
 	if length <= len(text) {
 		return text[:length]
@@ -85,7 +91,8 @@ func resized(text []byte, length int) []byte {
 	return append(text, make([]byte, length-len(text))...)
 }
 
-// New makes an empty disk with this root, for example "/n1.0". rng draws how long flushes take, which fail, and what power cuts leave.
+// New makes an empty disk with this root, for example "/n1.0". rng determines how long flushes take, which of them
+// fail, and what power cuts leave.
 func New(root string, rng *rand.Rand) *Disk {
 	d := &Disk{root: root, rng: rng, names: map[string]*content{}, flushedNames: map[string]*content{}}
 	mu.Lock()
@@ -97,7 +104,7 @@ func New(root string, rng *rand.Rand) *Disk {
 // Root returns the path of the disk's folder.
 func (d *Disk) Root() string { return d.root }
 
-// SetFlushTime sets the limits of how long a flush takes.
+// SetFlushTime sets the minimum and the maximum time of a flush.
 func (d *Disk) SetFlushTime(min, max time.Duration) {
 	mu.Lock()
 	defer mu.Unlock()
@@ -111,7 +118,8 @@ func (d *Disk) SetFailing(share float64) {
 	d.failing = share
 }
 
-// SetFull makes the disk full: a write then writes a part of its bytes, or none, and fails.
+// SetFull makes the disk full, or ends that. On a full disk, a write fails after it has written a part of its bytes or
+// none.
 func (d *Disk) SetFull(isFull bool) {
 	mu.Lock()
 	defer mu.Unlock()
@@ -125,14 +133,15 @@ func (d *Disk) WhileFlushing(call func()) {
 	d.whileFlushing = call
 }
 
-// Remove removes the disk. Files that are still open can be used further.
+// Remove removes the disk. Files that are still open can be used as before.
 func (d *Disk) Remove() {
 	mu.Lock()
 	defer mu.Unlock()
 	delete(disks, d.root)
 }
 
-// AfterKill returns the disk of the next life, which has another root, after the process was killed: all that was written is there.
+// AfterKill returns the disk of the next life after the process was killed. It has this root, and keeps everything that
+// was written.
 func (d *Disk) AfterKill(root string) *Disk {
 	next := New(root, d.rng)
 	mu.Lock()
@@ -148,18 +157,18 @@ func (d *Disk) AfterKill(root string) *Disk {
 		return copies[file]
 	}
 	for name, file := range d.names {
-		next.names[next.moved(d, name)] = copyOf(file)
+		next.names[next.pathOnThisDisk(d, name)] = copyOf(file)
 	}
 	for name, file := range d.flushedNames {
-		next.flushedNames[next.moved(d, name)] = copyOf(file)
+		next.flushedNames[next.pathOnThisDisk(d, name)] = copyOf(file)
 	}
 	for _, changed := range d.changes {
-		next.changes = append(next.changes, change{next.moved(d, changed.path), copyOf(changed.file), next.moved(d, changed.earlier)})
+		next.changes = append(next.changes, change{next.pathOnThisDisk(d, changed.path), copyOf(changed.file), next.pathOnThisDisk(d, changed.earlier)})
 	}
 	return next
 }
 
-// AfterPowerCut returns the disk of the next life, which has another root, after a power cut at this moment.
+// AfterPowerCut returns the disk of the next life after a power cut at this moment. It has this root.
 func (d *Disk) AfterPowerCut(root string) *Disk {
 	next := New(root, d.rng)
 	mu.Lock()
@@ -172,18 +181,19 @@ func (d *Disk) AfterPowerCut(root string) *Disk {
 		changed.applyTo(names)
 	}
 	for _, name := range sortedNames(names) {
-		left := names[name].afterPowerCut(d.rng)
-		file := &content{bytes: left, flushed: append([]byte(nil), left...), mode: names[name].mode}
-		next.names[next.moved(d, name)], next.flushedNames[next.moved(d, name)] = file, file
+		remaining := names[name].afterPowerCut(d.rng)
+		file := &content{bytes: remaining, flushed: append([]byte(nil), remaining...), mode: names[name].mode}
+		next.names[next.pathOnThisDisk(d, name)], next.flushedNames[next.pathOnThisDisk(d, name)] = file, file
 	}
 	return next
 }
 
-// moved returns a path of another disk as one of this disk.
-func (d *Disk) moved(from *Disk, name string) string {
+// pathOnThisDisk converts a path on another disk to the same path on this disk.
+func (d *Disk) pathOnThisDisk(from *Disk, name string) string {
 	return d.root + strings.TrimPrefix(name, from.root)
 }
 
+// sortedNames returns the names, sorted.
 func sortedNames(names map[string]*content) []string {
 	var sorted []string
 	for name := range names {
@@ -196,7 +206,7 @@ func sortedNames(names map[string]*content) []string {
 	return sorted
 }
 
-// afterPowerCut returns what the file has after a power cut: what was flushed, and any part of each write since then.
+// afterPowerCut returns the file's bytes after a power cut: the flushed bytes, and any part of each pending write.
 func (c *content) afterPowerCut(rng *rand.Rand) []byte {
 	text := append([]byte(nil), c.flushed...)
 	for _, pending := range c.pending {
@@ -228,8 +238,8 @@ func (w write) sectorsAppliedTo(text []byte, rng *rand.Rand) []byte {
 	return text
 }
 
-// FlushedTexts returns each text that the file at a path may certainly begin with after a power cut: one for each file that may have the
-// path then. If there may be no file at all, one of the texts is nil.
+// FlushedTexts returns the flushed text of each file that may have this path after a power cut. If there may be no file
+// at this path, one of the texts is nil.
 func (d *Disk) FlushedTexts(name string) [][]byte {
 	mu.Lock()
 	defer mu.Unlock()
@@ -264,11 +274,11 @@ func (d *Disk) Size(name string) int {
 func OpenFiles() int {
 	mu.Lock()
 	defer mu.Unlock()
-	return len(open)
+	return len(openFiles)
 }
 
-// of returns the disk of a path.
-func of(name string) (*Disk, error) {
+// diskOf returns the disk to which a path belongs.
+func diskOf(name string) (*Disk, error) {
 	if parts := strings.SplitN(name, "/", 3); len(parts) > 1 && parts[0] == "" {
 		if d := disks["/"+parts[1]]; d != nil {
 			return d, nil
@@ -277,28 +287,29 @@ func of(name string) (*Disk, error) {
 	return nil, syscall.ENOENT
 }
 
-// change changes names. A flush of the folder makes that durable.
-func (d *Disk) change(changed change) {
+// recordChange changes names. The next flush of the folder makes the change durable.
+func (d *Disk) recordChange(changed change) {
 	changed.applyTo(d.names)
 	d.changes = append(d.changes, changed)
 }
 
-// flush waits as long as a flush takes, and then calls done, or returns an error. The function of WhileFlushing runs in the middle.
+// flush waits as long as a flush takes. Then it calls done, or returns an error. In the middle of the wait, it calls
+// the function that WhileFlushing was given.
 func (d *Disk) flush(done func()) error {
 	mu.Lock()
-	took := d.minFlush
+	flushTime := d.minFlush
 	if d.maxFlush > d.minFlush {
-		took += time.Duration(d.rng.Int63n(int64(d.maxFlush - d.minFlush)))
+		flushTime += time.Duration(d.rng.Int63n(int64(d.maxFlush - d.minFlush)))
 	}
 	isFailing := d.failing > 0 && d.rng.Float64() < d.failing
-	call := d.whileFlushing
+	duringFlush := d.whileFlushing
 	d.whileFlushing = nil
 	mu.Unlock()
-	time.Sleep(took / 2)
-	if call != nil {
-		call()
+	time.Sleep(flushTime / 2)
+	if duringFlush != nil {
+		duringFlush()
 	}
-	time.Sleep(took - took/2)
+	time.Sleep(flushTime - flushTime/2)
 	mu.Lock()
 	defer mu.Unlock()
 	if isFailing {

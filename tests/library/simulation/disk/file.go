@@ -20,95 +20,97 @@ type File struct {
 	isClosed   bool
 }
 
-func failed(operation, name string, err error) error {
+// pathError returns an error of an operation as Go's package os would, or nil for nil.
+func pathError(operation, name string, err error) error {
 	if err == nil {
 		return nil
 	}
 	return &fs.PathError{Op: operation, Path: name, Err: err}
 }
 
-// OpenFile is os.OpenFile.
+// OpenFile does what os.OpenFile does.
 func OpenFile(name string, flags int, mode fs.FileMode) (*File, error) {
 	mu.Lock()
 	defer mu.Unlock()
-	d, err := of(name)
+	d, err := diskOf(name)
 	if err != nil {
-		return nil, failed("open", name, err)
+		return nil, pathError("open", name, err)
 	}
 	file := d.names[name]
 	switch {
 	case name == d.root:
-		return opened(&File{disk: d, name: name}), nil
+		return registerOpen(&File{disk: d, name: name}), nil
 	case file == nil && flags&os.O_CREATE == 0:
-		return nil, failed("open", name, syscall.ENOENT)
+		return nil, pathError("open", name, syscall.ENOENT)
 	case file != nil && flags&os.O_EXCL != 0:
-		return nil, failed("open", name, syscall.EEXIST)
+		return nil, pathError("open", name, syscall.EEXIST)
 	case file == nil:
 		file = &content{mode: mode}
-		d.change(change{path: name, file: file})
+		d.recordChange(change{path: name, file: file})
 	case flags&os.O_TRUNC != 0:
-		file.apply(write{isCut: true})
+		file.addWrite(write{isCut: true})
 	}
-	return opened(&File{disk: d, name: name, file: file, isAppended: flags&os.O_APPEND != 0}), nil
+	return registerOpen(&File{disk: d, name: name, file: file, isAppended: flags&os.O_APPEND != 0}), nil
 }
 
-func opened(f *File) *File {
-	last++
-	f.number = last
-	open[f.number] = f
+// registerOpen numbers a file, and counts it as open. The caller holds mu.
+func registerOpen(f *File) *File {
+	lastNumber++
+	f.number = lastNumber
+	openFiles[f.number] = f
 	return f
 }
 
-// apply applies a write, which the next flush makes durable.
-func (c *content) apply(w write) {
+// addWrite applies a write. The next flush makes the write durable.
+func (c *content) addWrite(w write) {
 	c.bytes = w.applyTo(c.bytes)
 	c.pending = append(c.pending, w)
 }
 
-// Remove is os.Remove.
+// Remove does what os.Remove does.
 func Remove(name string) error {
 	mu.Lock()
 	defer mu.Unlock()
-	d, err := of(name)
+	d, err := diskOf(name)
 	if err == nil && d.names[name] == nil {
 		err = syscall.ENOENT
 	}
 	if err != nil {
-		return failed("remove", name, err)
+		return pathError("remove", name, err)
 	}
-	d.change(change{path: name})
+	d.recordChange(change{path: name})
 	return nil
 }
 
-// Rename is os.Rename within a disk.
+// Rename does what os.Rename does, within a disk.
 func Rename(from, to string) error {
 	mu.Lock()
 	defer mu.Unlock()
-	d, err := of(from)
+	d, err := diskOf(from)
 	if err == nil && d.names[from] == nil {
 		err = syscall.ENOENT
 	}
 	if err != nil {
-		return failed("rename", from, err)
+		return pathError("rename", from, err)
 	}
-	d.change(change{path: to, file: d.names[from], earlier: from})
+	d.recordChange(change{path: to, file: d.names[from], earlier: from})
 	return nil
 }
 
-// Stat is os.Stat.
+// Stat does what os.Stat does.
 func Stat(name string) (fs.FileInfo, error) {
 	mu.Lock()
 	defer mu.Unlock()
-	d, err := of(name)
+	d, err := diskOf(name)
 	if err != nil {
-		return nil, failed("stat", name, err)
+		return nil, pathError("stat", name, err)
 	}
 	if name == d.root {
 		return &Info{name: name, mode: fs.ModeDir | 0o700, isFolder: true}, nil
 	}
 	file := d.names[name]
 	if file == nil {
-		return nil, failed("stat", name, syscall.ENOENT)
+		return nil, pathError("stat", name, syscall.ENOENT)
 	}
 	return &Info{name: name, file: file, size: int64(len(file.bytes)), mode: file.mode}, nil
 }
@@ -117,7 +119,7 @@ func Stat(name string) (fs.FileInfo, error) {
 func Lock(number int) error {
 	mu.Lock()
 	defer mu.Unlock()
-	f := open[number]
+	f := openFiles[number]
 	if f == nil || f.file == nil {
 		return syscall.EBADF
 	}
@@ -131,7 +133,7 @@ func Lock(number int) error {
 // Flush flushes the file with this number.
 func Flush(number int) error {
 	mu.Lock()
-	f := open[number]
+	f := openFiles[number]
 	mu.Unlock()
 	if f == nil {
 		return syscall.EBADF
@@ -139,7 +141,7 @@ func Flush(number int) error {
 	return f.flush()
 }
 
-// check returns an error if the file can't be read and written. mu is held.
+// check returns an error if the file can't be read and written. The caller holds mu.
 func (f *File) check() error {
 	switch {
 	case f.isClosed:
@@ -150,12 +152,12 @@ func (f *File) check() error {
 	return nil
 }
 
-// Write is os.File's.
+// Write does what Write of os.File does.
 func (f *File) Write(data []byte) (int, error) {
 	mu.Lock()
 	defer mu.Unlock()
 	if err := f.check(); err != nil {
-		return 0, failed("write", f.name, err)
+		return 0, pathError("write", f.name, err)
 	}
 	if f.isAppended {
 		f.offset = len(f.file.bytes)
@@ -165,39 +167,40 @@ func (f *File) Write(data []byte) (int, error) {
 	return count, err
 }
 
-// WriteAt is os.File's.
+// WriteAt does what WriteAt of os.File does.
 func (f *File) WriteAt(data []byte, offset int64) (int, error) {
 	mu.Lock()
 	defer mu.Unlock()
 	if err := f.check(); err != nil {
-		return 0, failed("write", f.name, err)
+		return 0, pathError("write", f.name, err)
 	}
 	return f.writeAt(data, int(offset))
 }
 
+// writeAt writes data at an offset, or a part of it if the disk is full. The caller holds mu.
 func (f *File) writeAt(data []byte, offset int) (int, error) {
 	var err error
 	if f.disk.isFull && offset+len(data) > len(f.file.bytes) {
 		data, err = data[:f.disk.rng.Intn(len(data)+1)/2], syscall.ENOSPC
 	}
 	if len(data) > 0 {
-		f.file.apply(write{offset: offset, bytes: append([]byte(nil), data...)})
+		f.file.addWrite(write{offset: offset, bytes: append([]byte(nil), data...)})
 	}
-	return len(data), failed("write", f.name, err)
+	return len(data), pathError("write", f.name, err)
 }
 
-// Truncate is os.File's.
+// Truncate does what Truncate of os.File does.
 func (f *File) Truncate(length int64) error {
 	mu.Lock()
 	defer mu.Unlock()
 	if err := f.check(); err != nil {
-		return failed("truncate", f.name, err)
+		return pathError("truncate", f.name, err)
 	}
-	f.file.apply(write{offset: int(length), isCut: true})
+	f.file.addWrite(write{offset: int(length), isCut: true})
 	return nil
 }
 
-// Read is os.File's.
+// Read does what Read of os.File does.
 func (f *File) Read(data []byte) (int, error) {
 	count, err := f.ReadAt(data, int64(f.offset))
 	f.offset += count
@@ -207,12 +210,12 @@ func (f *File) Read(data []byte) (int, error) {
 	return count, err
 }
 
-// ReadAt is os.File's.
+// ReadAt does what ReadAt of os.File does.
 func (f *File) ReadAt(data []byte, offset int64) (int, error) {
 	mu.Lock()
 	defer mu.Unlock()
 	if err := f.check(); err != nil {
-		return 0, failed("read", f.name, err)
+		return 0, pathError("read", f.name, err)
 	}
 	if offset >= int64(len(f.file.bytes)) && len(data) > 0 {
 		return 0, io.EOF
@@ -224,12 +227,12 @@ func (f *File) ReadAt(data []byte, offset int64) (int, error) {
 	return count, nil
 }
 
-// Seek is os.File's.
+// Seek does what Seek of os.File does.
 func (f *File) Seek(offset int64, whence int) (int64, error) {
 	mu.Lock()
 	defer mu.Unlock()
 	if err := f.check(); err != nil {
-		return 0, failed("seek", f.name, err)
+		return 0, pathError("seek", f.name, err)
 	}
 	switch whence {
 	case io.SeekCurrent:
@@ -241,11 +244,11 @@ func (f *File) Seek(offset int64, whence int) (int64, error) {
 	return offset, nil
 }
 
-// Sync is os.File's.
-func (f *File) Sync() error { return failed("sync", f.name, f.flush()) }
+// Sync does what Sync of os.File does.
+func (f *File) Sync() error { return pathError("sync", f.name, f.flush()) }
 
-// flush makes durable what was written to the file before the call, or, for a folder, which names were given and removed. What a failed
-// flush did not make durable stays readable, and no later flush makes it durable.
+// flush makes all earlier writes to the file durable or, for a folder, all earlier changes of names in it. If a flush
+// fails, its writes can still be read, but no later flush makes them durable.
 func (f *File) flush() error {
 	mu.Lock()
 	if f.isClosed {
@@ -268,12 +271,13 @@ func (f *File) flush() error {
 	if err != nil && f.file != nil {
 		mu.Lock()
 		defer mu.Unlock()
-		f.file.lose(pending)
+		f.file.dropPending(pending)
 	}
 	return err
 }
 
-// flushNames makes the first changes of names durable. Another flush may have done so meanwhile.
+// flushNames makes the first changes of names durable (count of them). Another flush may have done this for some of
+// them meanwhile.
 func (d *Disk) flushNames(count int) {
 	if count > len(d.changes) {
 		count = len(d.changes)
@@ -284,7 +288,8 @@ func (d *Disk) flushNames(count int) {
 	d.changes = append([]change(nil), d.changes[count:]...)
 }
 
-// flush makes the first pending writes durable. Another flush may have done so meanwhile.
+// flush makes the first pending writes durable (count of them). Another flush may have done this for some of them
+// meanwhile.
 func (c *content) flush(count int) {
 	if count > len(c.pending) {
 		count = len(c.pending)
@@ -295,44 +300,44 @@ func (c *content) flush(count int) {
 	c.pending = append([]write(nil), c.pending[count:]...)
 }
 
-// lose forgets the first pending writes.
-func (c *content) lose(count int) {
+// dropPending drops the first pending writes (count of them), so no flush makes them durable.
+func (c *content) dropPending(count int) {
 	if count > len(c.pending) {
 		count = len(c.pending)
 	}
 	c.pending = append([]write(nil), c.pending[count:]...)
 }
 
-// Stat is os.File's.
+// Stat does what Stat of os.File does.
 func (f *File) Stat() (fs.FileInfo, error) {
 	mu.Lock()
 	defer mu.Unlock()
 	if err := f.check(); err != nil {
-		return nil, failed("stat", f.name, err)
+		return nil, pathError("stat", f.name, err)
 	}
 	return &Info{name: f.name, file: f.file, size: int64(len(f.file.bytes)), mode: f.file.mode}, nil
 }
 
-// Chmod is os.File's.
+// Chmod does what Chmod of os.File does.
 func (f *File) Chmod(mode fs.FileMode) error {
 	mu.Lock()
 	defer mu.Unlock()
 	if err := f.check(); err != nil {
-		return failed("chmod", f.name, err)
+		return pathError("chmod", f.name, err)
 	}
 	f.file.mode = mode
 	return nil
 }
 
-// Fd is os.File's. The number is only valid for this package.
+// Fd does what Fd of os.File does. The number is valid only for this package.
 func (f *File) Fd() uintptr { return uintptr(f.number) }
 
-// SyscallConn is os.File's. Its number is that of Fd.
+// SyscallConn does what SyscallConn of os.File does. It passes on the same number as Fd.
 func (f *File) SyscallConn() (syscall.RawConn, error) {
 	mu.Lock()
 	defer mu.Unlock()
 	if f.isClosed {
-		return nil, failed("SyscallConn", f.name, fs.ErrClosed)
+		return nil, pathError("SyscallConn", f.name, fs.ErrClosed)
 	}
 	return rawFile{f}, nil
 }
@@ -348,18 +353,18 @@ func (r rawFile) Control(call func(number uintptr)) error {
 func (rawFile) Read(func(uintptr) bool) error  { return syscall.ENOTSUP }
 func (rawFile) Write(func(uintptr) bool) error { return syscall.ENOTSUP }
 
-// Name is os.File's.
+// Name does what Name of os.File does.
 func (f *File) Name() string { return path.Clean(f.name) }
 
-// Close is os.File's. It releases the file's lock.
+// Close does what Close of os.File does. It releases the file's lock.
 func (f *File) Close() error {
 	mu.Lock()
 	defer mu.Unlock()
 	if f.isClosed {
-		return failed("close", f.name, fs.ErrClosed)
+		return pathError("close", f.name, fs.ErrClosed)
 	}
 	f.isClosed = true
-	delete(open, f.number)
+	delete(openFiles, f.number)
 	if f.file != nil && f.file.lockedBy == f {
 		f.file.lockedBy = nil
 	}

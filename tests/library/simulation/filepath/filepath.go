@@ -1,4 +1,4 @@
-// Package filepath has what the stores use of Go's package filepath, over simulated disks.
+// Package filepath replaces the part of Go's package filepath that the stores use. It works on simulated disks.
 package filepath
 
 import (
@@ -7,7 +7,7 @@ import (
 	"kitchenrue.example/simulation/disk"
 )
 
-// The functions are those of Go's package.
+// These functions are those of Go's package.
 var (
 	Abs  = filepath.Abs
 	Base = filepath.Base
@@ -15,7 +15,8 @@ var (
 	Join = filepath.Join
 )
 
-// EvalSymlinks returns the path, since a simulated disk has no symbolic links, or an error if there is no such file.
+// EvalSymlinks returns the path, since a simulated disk has no symbolic links. If there is no file at the path, it
+// returns an error.
 func EvalSymlinks(path string) (string, error) {
 	if _, err := disk.Stat(path); err != nil {
 		return "", err

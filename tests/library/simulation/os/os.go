@@ -1,4 +1,4 @@
-// Package os has what the stores use of Go's package os, over simulated disks.
+// Package os replaces the part of Go's package os that the stores use. It works on simulated disks.
 package os
 
 import (
@@ -34,7 +34,8 @@ var (
 // Open opens a file or a folder for reading.
 func Open(name string) (*File, error) { return disk.OpenFile(name, O_RDONLY, 0) }
 
-// The other functions are those of Go's package. A simulated disk has no symbolic links, so Lstat is Stat.
+// The other functions do what the functions of Go's package do. A simulated disk has no symbolic links, so Lstat is
+// Stat.
 var (
 	OpenFile = disk.OpenFile
 	Remove   = disk.Remove

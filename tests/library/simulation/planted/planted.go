@@ -1,4 +1,5 @@
-// Package planted selects the wrong body that is on. The copies of the packages under test have all of them (planted.py).
+// Package planted selects the wrong body that runs. The copies of the packages under test contain all wrong bodies
+// (planted.py).
 package planted
 
 import (
@@ -7,45 +8,46 @@ import (
 	"time"
 )
 
-// Name is the name of the wrong body that is on. Set it before the first node begins.
+// Name is the name of the wrong body that runs. Set it before the first node begins.
 var Name string
 
-// TimeOfDayShift is how far the clock of the day of all nodes is off.
+// TimeOfDayShift is the error of the time of day that all nodes see, in nanoseconds.
 var TimeOfDayShift atomic.Int64
 
-// sent has the times of the intents that the nodes sent.
-var sent struct {
+// sentIntents has the Lamport times of the intents that the nodes sent.
+var sentIntents struct {
 	sync.Mutex
 	joins  map[string]uint64
 	leaves map[string]map[uint64]bool
 }
 
-// Sent records that a node sent an intent. The copies of the packages call it.
-func Sent(by, node string, time uint64, isLeave bool) {
-	sent.Lock()
-	defer sent.Unlock()
-	if sent.joins == nil {
-		sent.joins, sent.leaves = map[string]uint64{}, map[string]map[uint64]bool{}
+// RecordIntent records that a node sent an intent. The copies of the packages call it.
+func RecordIntent(sender, node string, time uint64, isLeave bool) {
+	sentIntents.Lock()
+	defer sentIntents.Unlock()
+	if sentIntents.joins == nil {
+		sentIntents.joins, sentIntents.leaves = map[string]uint64{}, map[string]map[uint64]bool{}
 	}
 	if !isLeave {
-		sent.joins[node] = time
-	} else if by != node {
-		if sent.leaves[node] == nil {
-			sent.leaves[node] = map[uint64]bool{}
+		sentIntents.joins[node] = time
+	} else if sender != node {
+		if sentIntents.leaves[node] == nil {
+			sentIntents.leaves[node] = map[uint64]bool{}
 		}
-		sent.leaves[node][time] = true
+		sentIntents.leaves[node][time] = true
 	}
 }
 
-// IsTied reports whether another node sent a leave for this one, at the time of its last join intent.
+// IsTied reports whether another node sent a leave intent for this node with the same time as this node's last join
+// intent.
 func IsTied(node string) bool {
-	sent.Lock()
-	defer sent.Unlock()
-	return sent.leaves[node][sent.joins[node]]
+	sentIntents.Lock()
+	defer sentIntents.Unlock()
+	return sentIntents.leaves[node][sentIntents.joins[node]]
 }
 
-// Is reports whether a wrong body is on.
-func Is(name string) bool { return Name == name }
+// IsOn reports whether the wrong body with this name runs.
+func IsOn(name string) bool { return Name == name }
 
 // TimeOfDay returns the time of day as the nodes see it.
 func TimeOfDay() time.Time { return time.Now().Add(time.Duration(TimeOfDayShift.Load())) }

@@ -1,4 +1,4 @@
-// Package syscall has what the stores use of Go's package syscall, over simulated disks.
+// Package syscall replaces the part of Go's package syscall that the stores use. It works on simulated disks.
 package syscall
 
 import (
@@ -31,7 +31,7 @@ const (
 	EWOULDBLOCK = syscall.EWOULDBLOCK
 )
 
-// Flock locks a file exclusively without waiting, whatever the operation is.
+// Flock locks a file exclusively and without waiting, whatever operation is requested.
 func Flock(number, _ int) error { return disk.Lock(number) }
 
 // Fdatasync flushes a file.

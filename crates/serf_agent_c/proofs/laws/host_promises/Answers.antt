@@ -41,6 +41,12 @@ returns-clause-later c = hosts.gives_later (below c)
 pub returns-clause-queries_later : goal.returns-clause-queries_later
 returns-clause-queries_later c = hosts.gives_queries_later (below c)
 
+pub returns-clause-later_in_bursts : goal.returns-clause-later_in_bursts
+returns-clause-later_in_bursts c = hosts.gives_later_in_bursts (below c)
+
+pub returns-clause-queries_later_in_bursts : goal.returns-clause-queries_later_in_bursts
+returns-clause-queries_later_in_bursts c = hosts.gives_queries_later_in_bursts (below c)
+
 pub returns-clause-exactly : goal.returns-clause-exactly
 returns-clause-exactly c = hosts.gives_exactly (below c)
 

@@ -1,4 +1,4 @@
-use Rattle.serf_draw.proofs.Names.{List, [], ap, sym, take, take_all, ℕ, ◌++◌, ◌+◌, ◌∙◌, ◌∷◌, ◌≡◌, flat_map_more, take_more, flat_map}
+use Rattle.serf_draw.proofs.Names.{List, [], ap, sym, take, take_all, ◌++◌, ◌+◌, ◌∙◌, ◌∷◌, ◌≡◌, flat_map_more, take_more, flat_map}
 use Rattle.serf_draw.proofs.filled.write_each.Goals as goal
 
 pub loop-item-preserved : goal.loop-item-preserved

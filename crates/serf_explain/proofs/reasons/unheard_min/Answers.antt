@@ -1,4 +1,4 @@
-use Rattle.serf_explain.proofs.Names.{Some, ap, false, sym, true, ◌∙◌, ◌≡◌, option_map, message_of, packet_given, Act, clock_said, unheard_min, message_given}
+use Rattle.serf_explain.proofs.Names.{Some, ap, false, sym, true, ◌∙◌, ◌≡◌, option_map, message_of, packet_given, Act, state_event_clock, unheard_min, message_given}
 use Rattle.serf_model.specs.declared.action.Act.TheVariants as acts
 use Rattle.serf_explain.proofs.ReasonLaws.{unheard_is}
 use Rattle.serf_explain.proofs.reasons.unheard_min.Goals as goal
@@ -17,6 +17,6 @@ returns-in-Some c =
     let s = c.args.actor.now.agent.now.concrete in
     let act : c.args.actor.now.act.now ≡ acts.Merge c.in-Merge.packet c.in-Merge.join = c.in-Merge.is in
     let given : Some (message_of c.in-Some.message) ≡ said = sym (ap (λ o. option_map message_of o) c.in-Some.is) ∙ c.message_of.ensures in
-    c.clock_said.ensures ∙ ap clock_said given
+    c.state_event_clock.ensures ∙ ap state_event_clock given
     ∙ unheard_is s c.args.actor.now.before.durable c.in-Merge.packet c.in-Merge.join true said (λ p. sym c.if-not-hears_nothing.false ∙ c.hears_nothing.ensures p)
     ∙ sym (ap (λ (a : Act). unheard_min s c.args.actor.now.before.durable a said) act)

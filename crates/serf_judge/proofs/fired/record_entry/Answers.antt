@@ -5,5 +5,5 @@ use Rattle.serf_judge.proofs.fired.record_entry.Goals as goal
 
 pub returns : goal.returns
 returns c = λ fired h.
-    table-more is_same_content content-decides key_content content_of counts (one_counts c.args.starts.now) fired c.args.entry.now c.content_key-key.result c.recorded_with-firings.result
-    (λ q. get content_key_eq c.args.table.now q) (λ q. get content_key_eq c.insert.new.self q) c.content_key-key.ensures h (λ at. rw (← c.log_of.ensures) (c.recorded_with-firings.ensures at)) (λ q. c.in_ok-insert.ensures.updates.0 q)
+    table-more is_same_content content-decides key_content content_of counts (one_counts c.args.starts.now) fired c.args.entry.now c.content_key-key.result c.firings_with-firings.result
+    (λ q. get content_key_eq c.args.table.now q) (λ q. get content_key_eq c.insert.new.self q) c.content_key-key.ensures h (λ at. rw (← c.log_of.ensures) (c.firings_with-firings.ensures at)) (λ q. c.in_ok-insert.ensures.updates.0 q)

@@ -5,7 +5,7 @@ pub returns-in-Serf : goal.returns-in-Serf
 returns-in-Serf g c =
     let clock : c.serf_clock_in.result ≡ serf_clock c.in-Serf.rejoins g.E.Offered.kind c.args.text.now = c.serf_clock_in.ensures in
     let lowest : c.serf_minimum-minimum.result ≡ serf_minimum (serf_clock c.in-Serf.rejoins g.E.Offered.kind c.args.text.now) = c.serf_minimum-minimum.ensures ∙ ap serf_minimum clock in
-    c.first_from.ensures
+    c.first_of_node_since.ensures
     ∙ position_from-zero (is_line_from g.E.Delivered.seen c.args.node.now c.serf_minimum-minimum.result) c.args.entries.now
     ∙ ap (λ (m : ℕ). position_from (is_line_from g.E.Delivered.seen c.args.node.now m) 0 c.args.entries.now) lowest
     ∙ ap (λ (r : Reader). position_from (is_again g.E.Offered.kind g.E.Delivered.seen g.E.Offered.is_new r c.args.text.now c.args.node.now) 0 c.args.entries.now) (sym c.in-Serf.is)

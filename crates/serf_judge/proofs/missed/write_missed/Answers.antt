@@ -2,8 +2,8 @@ use Rattle.serf_judge.proofs.Names.{Bor, List, ap, arith, length, map, sym, ℕ,
 use Rattle.serf_judge.proofs.MissedLaws.{put-none, put-some}
 use Rattle.serf_judge.proofs.missed.write_missed.Goals as goal
 
-pub returns-then-is_had : goal.returns-then-is_had
-returns-then-is_had c =
+pub returns-then-no_node_missed : goal.returns-then-no_node_missed
+returns-then-no_node_missed c =
     let none : length c.as_slice.result.now ≡ 0 = grind (arith, common_steps) in
     put-none (map missing_view c.args.missed.now.items) (key_content c.args.event) (texts_of c.args.nodes.items)
     (length-map c.args.nodes.items (λ (t : Bor (List ℕ)). t.now) ∙ ap length (sym c.as_slice.ensures.value) ∙ none)

@@ -6,6 +6,8 @@ use Rattle.serf_model.proofs.CountingPromises.{counted-once, open-hold}
 use Rattle.serf_model.proofs.HandOutLaws.{entering-run, handing-out, messaging-run}
 use Rattle.serf_model.proofs.KeptLaws.{kept, kept-start}
 use Rattle.serf_model.proofs.PromiseLaws.{promised, query-fired}
+use Rattle.serf_model.proofs.SentLaws.{sending-run}
+use Rattle.serf_model.proofs.TakenLaws.{taking-run}
 use Rattle.serf_model.proofs.QueriesEntered.{query-only-fired}
 use Rattle.serf_model.proofs.laws.run_promises.Goals as goal
 
@@ -38,6 +40,15 @@ returns-clause-kept c = λ configs actions ok told. ((promised c.laws_below.ensu
 
 pub returns-clause-queries_kept : goal.returns-clause-queries_kept
 returns-clause-queries_kept c = λ configs actions ok told. ((promised c.laws_below.ensures) configs actions ok told).queries_kept
+
+pub returns-clause-sent : goal.returns-clause-sent
+returns-clause-sent c = λ configs actions sized ok told. ((sending-run c.laws_below.ensures) configs actions ok told sized).sent
+
+pub returns-clause-taken : goal.returns-clause-taken
+returns-clause-taken c = λ configs actions ok told. ((taking-run c.laws_below.ensures) configs actions ok told).taken
+
+pub returns-clause-merged : goal.returns-clause-merged
+returns-clause-merged c = λ configs actions ok told. ((taking-run c.laws_below.ensures) configs actions ok told).merged
 
 pub returns-clause-query_once : goal.returns-clause-query_once
 returns-clause-query_once c = λ configs actions ok told. ((promised c.laws_below.ensures) configs actions ok told).query_once

@@ -1,19 +1,20 @@
-//! `conform --random`: compares an agent with the reference on the random schedules of many seeds.
+//! Implements `conform --random`, which compares an agent with the reference on the random schedules of many seeds.
 
+use super::missing::left_of;
 use super::report::HeldAgent;
 use super::session::Session;
 use crate::command_error::{CommandError, CommandResult, Status};
-use crate::commands::random::{ask_with, kind_of};
+use crate::commands::random::{kind_of, options_with};
 use crate::io::Io;
 use crate::options::{KINDS_OR_ALL, bad_word};
 use crate::progress::{Progress, SEEDS, say_kind};
 use clap::ArgMatches;
 use serf_conform::{Counts, Found, HuntError, Hunted, RandomSchedules, case_of, hunt, sum_of};
 use serf_random::{Kind, Made, RandomOptions, random_schedule};
-use serf_schedule::Unwatched;
+use serf_schedule::{Unwatched, parse_schedule};
 use serf_text::Part::Number;
 
-/// The names of all kinds, in the order in which their schedules are run.
+/// The names of all kinds of random schedules, in the order in which the schedules are run.
 const KINDS: &str =
     "mixed tiny merges restarts devices injections queries limits exhaustion per-time compactions gossip spellings kept rounds";
 
@@ -23,13 +24,13 @@ pub(super) struct Seeds {
     first: u64,
     /// The last seed plus one.
     end: u64,
-    /// The options of the schedules. Each seed replaces the seed in them.
+    /// The options of the schedules. For each schedule, its own seed replaces the seed in these options.
     ask: RandomOptions,
-    /// Whether schedules of all kinds are compared, instead of the kind in `ask`.
+    /// Whether the agent is compared on schedules of all kinds, instead of only the kind in `ask`.
     are_of_all_kinds: bool,
 }
 
-/// The seeds in a word `A-B` or `A`: the first seed, and the last seed plus one.
+/// Reads a word of the form `A-B` or `A`, and returns the first seed and the last seed plus one.
 fn ends_of(word: &str) -> Option<(u64, u64)> {
     let (first, last) = word.split_once("-").unwrap_or((word, word));
     let first = first.parse::<u64>().ok()?;
@@ -37,7 +38,7 @@ fn ends_of(word: &str) -> Option<(u64, u64)> {
     (first < end).then_some((first, end))
 }
 
-/// The seeds in `word`, with the options of the command line for their schedules.
+/// Returns the seeds that `word` names, together with the options for their schedules that the command line selects.
 pub(super) fn seeds_of<'a>(word: &str, matches: &ArgMatches) -> Result<Seeds, CommandError<'a>> {
     let words = "seeds as A-B, from the smaller to the larger";
     let (first, end) = ends_of(word).ok_or(bad_word("random", words))?;
@@ -50,29 +51,30 @@ pub(super) fn seeds_of<'a>(word: &str, matches: &ArgMatches) -> Result<Seeds, Co
     Ok(Seeds {
         first,
         end,
-        ask: ask_with(matches, first, kind)?,
+        ask: options_with(matches, first, kind)?,
         are_of_all_kinds,
     })
 }
 
-/// The progress with the seeds of one kind.
+/// How far the comparison on the seeds of one kind has come.
 #[derive(Clone, Copy)]
 struct KindProgress {
-    /// The options of the schedules. Each seed replaces the seed in them.
+    /// The options of the schedules. For each schedule, its own seed replaces the seed in these options.
     ask: RandomOptions,
-    /// The first seed that wasn't compared yet.
+    /// The first seed on which the agent hasn't been compared yet.
     next: u64,
-    /// How many seeds were compared to their end without a disagreement.
+    /// The number of seeds whose schedules were compared to the end without a disagreement.
     agreed: u64,
-    /// How many calls agree.
+    /// The number of calls at which the agent agreed with the reference.
     calls: u64,
-    /// For how many seeds an agent differs.
+    /// The number of seeds for which an agent differed from the reference.
     found: u64,
 }
 
 impl KindProgress {
-    /// Adds the result of a hunt, which found an agent that differs, or none in the seeds before `end`.
-    fn held_to(&mut self, end: u64, counts: Counts, found: &Option<Found>) {
+    /// Adds the result of a hunt, which either found an agent that differs, or found no such agent for the seeds before
+    /// `end`.
+    fn add_hunt(&mut self, end: u64, counts: Counts, found: &Option<Found>) {
         let seed = match found {
             Some(found) => found.seed,
             None => end,
@@ -98,7 +100,8 @@ impl Session<'_> {
         Status::refused_if(kind.found > 0)
     }
 
-    /// Reports which agent differs for which seed, how many seeds of its kind agree before, and how the agent differs.
+    /// Prints the seed for which an agent differs, how many seeds of the same kind agreed before that seed, and how the
+    /// agent differs.
     fn tell_found<'b>(&mut self, kind: &KindProgress, found: &Found) -> CommandResult<'b> {
         let (alloc, seed, other) = (self.io.alloc(), found.seed, &found.other);
         let parts = [Number(seed), Number(kind.agreed), Number(kind.calls)];
@@ -106,8 +109,9 @@ impl Session<'_> {
         self.io
             .report(b"seed ~: ~ seeds and ~ calls agree before\n", &parts);
         let ask = RandomOptions { seed, ..kind.ask };
-        let Made { schedule, text } = random_schedule(alloc, &ask, &mut Unwatched)?;
-        let case = case_of(alloc, schedule)?;
+        let Made { text, .. } = random_schedule(alloc, &ask, &mut Unwatched)?;
+        let text = left_of(alloc, text, self.asked.missing)?;
+        let case = case_of(alloc, parse_schedule(alloc, &text)?)?;
         self.conclude(&HeldAgent {
             seed: Some(seed),
             text: &text,
@@ -117,20 +121,23 @@ impl Session<'_> {
         })
     }
 
-    /// Compares an agent on the seeds of a kind that are left, up to the first seed for which it differs. Adds the
-    /// result to the sums.
+    /// Compares an agent on the remaining seeds of a kind, up to the first seed for which the agent differs. The
+    /// function adds the result to the sums.
     fn hunt_on<'b>(
         &mut self,
         end: u64,
         kind: &mut KindProgress,
         progress: &mut Progress,
     ) -> Result<Option<Found>, CommandError<'b>> {
-        let maker = RandomSchedules(kind.ask);
+        let maker = RandomSchedules {
+            options: kind.ask,
+            missing: self.asked.missing,
+        };
         let (alloc, rules, first) = (self.io.alloc(), self.asked.rules, kind.next);
         match hunt(alloc, &maker, &mut self.pipe, rules, first, end, progress) {
             Ok(Hunted { counts, found }) => {
                 self.report.counts = sum_of(self.report.counts, counts);
-                kind.held_to(end, counts, &found);
+                kind.add_hunt(end, counts, &found);
                 Ok(found)
             }
             Err(HuntError { seed, error }) => {
@@ -141,12 +148,12 @@ impl Session<'_> {
         }
     }
 
-    /// Compares an agent on all seeds of a kind. It continues after a disagreement as often as requested. Returns the
-    /// status with which the command continues.
+    /// Compares an agent on all seeds of a kind. The comparison continues after a disagreement until the requested
+    /// number of disagreements is reached. Returns the status with which the command continues.
     fn hold_kind<'b>(&mut self, seeds: &Seeds, kind: &mut KindProgress) -> CommandResult<'b> {
         let mut progress = Progress::of(self.io, SEEDS);
         for _ in self.report.disagreements..self.asked.go_on.unwrap_or(1) {
-            progress.goes_on(self.report.kind, kind.next.saturating_sub(seeds.first));
+            progress.resume(self.report.kind, kind.next.saturating_sub(seeds.first));
             match self.hunt_on(seeds.end, kind, &mut progress)? {
                 Some(found) => self.tell_found(kind, &found)?,
                 None => return Ok(self.tell_end(kind)),
@@ -155,8 +162,9 @@ impl Session<'_> {
         Err(CommandError::Reported(Status::Refused))
     }
 
-    /// Compares an agent on all seeds, kind by kind, up to the first disagreement or up to the requested number of
-    /// them. Returns the largest status of all kinds. Adds to the report how many seeds agree.
+    /// Compares an agent on all seeds, kind by kind, up to the requested number of disagreements or, if no number is
+    /// requested, up to the first one. Returns the largest of the statuses of all kinds. The function also adds to the
+    /// report how many seeds agree.
     pub(super) fn hold_kinds<'b>(&mut self, seeds: &Seeds) -> CommandResult<'b> {
         let mut status = Status::Done;
         for word in KINDS.split(' ') {

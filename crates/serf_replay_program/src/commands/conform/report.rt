@@ -1,4 +1,4 @@
-//! What is reported about an agent that was compared: on standard error for a person, and in a file for other programs.
+//! Reports on compared agents, both on standard error for people and in a file for other programs.
 
 use crate::command_error::{CommandError, CommandResult, Status};
 use crate::io::Io;
@@ -7,11 +7,13 @@ use serf_conform::{
     no_counts, opening, wanted, write_call, write_disagreement, write_open, write_reply_line,
     write_sums,
 };
+use serf_explain::{Range, explain};
+use serf_schedule::Unwatched;
 use serf_text::Part::{Masked, Number, Text};
 use serf_text::{decode_text, write_template};
 use std::alloc::{AllocError, Global};
 
-/// Appends the lines of `text`. The first comes after `word`, and the others after spaces.
+/// Appends the lines of `text`. The first of these lines follows `word`, and the others are indented with spaces.
 fn write_lines(out: &mut Vec<u8>, word: &[u8], text: &[u8]) -> Result<(), AllocError> {
     let mut before = word;
     for line in text.split(|b| *b == b'\n') {
@@ -23,7 +25,7 @@ fn write_lines(out: &mut Vec<u8>, word: &[u8], text: &[u8]) -> Result<(), AllocE
     Ok(())
 }
 
-/// The lines of a reply.
+/// Returns the text of a reply, line by line.
 fn reply_text(alloc: Global, reply: &Reply) -> Result<Vec<u8>, AllocError> {
     let mut out = Vec::from_slice(alloc, reply.answer.as_slice())?;
     for line in &reply.lines {
@@ -33,8 +35,8 @@ fn reply_text(alloc: Global, reply: &Reply) -> Result<Vec<u8>, AllocError> {
     Ok(out)
 }
 
-/// The number of the line in `text` that has action number `number`. Both are counted from 1. The lines of `agents`
-/// agents come before the actions.
+/// Returns the number of the line in `text` that contains action number `number`. Both numbers are counted from 1.
+/// Before the actions, `text` contains a line for each of the `agents` agents.
 fn line_of_action(text: &[u8], agents: usize, number: u64) -> u64 {
     let mut left = (agents as u64).saturating_add(number);
     let mut place: u64 = 0;
@@ -52,7 +54,7 @@ fn line_of_action(text: &[u8], agents: usize, number: u64) -> u64 {
     place
 }
 
-/// An agent that was compared, and the verdict on it.
+/// A compared agent, together with the verdict on it.
 #[derive(Clone, Copy)]
 pub(super) struct HeldAgent<'a> {
     /// The seed of the schedule, or `None` if the schedule was read from a file.
@@ -65,8 +67,8 @@ pub(super) struct HeldAgent<'a> {
 }
 
 impl HeldAgent<'_> {
-    /// The line of the action at which the comparison ended, counted from 1. It is 0 if the comparison ended at the
-    /// opening or after the last action.
+    /// Returns the number, counted from 1, of the line with the action at which the comparison ended. If the comparison
+    /// ended at the opening or after the last action, the result is 0.
     pub(super) fn line(&self) -> u64 {
         let number = self.verdict.action;
         if number == 0 || number > self.case.actions.len() as u64 {
@@ -76,8 +78,8 @@ impl HeldAgent<'_> {
     }
 }
 
-/// Appends the call at which the comparison ended, and returns the expected reply to it. The call is a `look`, an
-/// action with its packet, or the opening.
+/// Appends the call at which the comparison ended, and returns the expected reply to this call. The call is a `look`,
+/// an action with its packet, or the opening.
 fn write_held_call(
     out: &mut Vec<u8>,
     alloc: Global,
@@ -109,8 +111,8 @@ fn write_held_call(
     wanted(alloc, line, given, &sent[before..before + own])
 }
 
-/// The text that `decode` prints for the packet in a line of a reply, or `None` if the line has no packet that spells a
-/// message.
+/// Returns the text that `decode` prints for the packet in a line of a reply. If the line contains no packet with a
+/// valid message, returns `None`.
 fn message_of(alloc: Global, line: &str) -> Option<String> {
     let digits = line.strip_prefix("sent ")?;
     let packet = hex::decode(alloc, digits).ok()?;
@@ -118,14 +120,15 @@ fn message_of(alloc: Global, line: &str) -> Option<String> {
     String::from_utf8(text).ok()
 }
 
-/// If `one` and `other` begin with the same word, this word and what follows it in each.
+/// If `one` and `other` begin with the same word, returns this word and the rest of each.
 fn after_one_word<'a, 'b>(one: &'a str, other: &'b str) -> Option<(&'a str, &'a str, &'b str)> {
     let (name, is) = one.split_once(' ')?;
     let (second, was) = other.split_once(' ')?;
     (name == second).then_some((name, is, was))
 }
 
-/// Appends each pair of lines that differ. If both lines begin with the same word, this word is written only once.
+/// Appends each pair of lines that differ. If both lines of a pair begin with the same word, the function writes this
+/// word only once.
 fn write_pairs(out: &mut Vec<u8>, wanted: &[&str], got: &[&str]) -> Result<(), AllocError> {
     for (one, other) in wanted.iter().zip(got.iter()) {
         let found = after_one_word(one, other);
@@ -142,7 +145,7 @@ fn write_pairs(out: &mut Vec<u8>, wanted: &[&str], got: &[&str]) -> Result<(), A
     Ok(())
 }
 
-/// Appends `lines`, each after `word`.
+/// Appends all of `lines`, with `word` before each line.
 fn write_each(out: &mut Vec<u8>, word: &str, lines: &[&str]) -> Result<(), AllocError> {
     for line in lines {
         let parts = [Text(word.as_bytes()), Text(line.as_bytes())];
@@ -151,14 +154,14 @@ fn write_each(out: &mut Vec<u8>, word: &str, lines: &[&str]) -> Result<(), Alloc
     Ok(())
 }
 
-/// The `lines` without the first `front` and the last `end` of them.
+/// Returns `lines` without the first `front` lines and the last `end` lines.
 fn middle<'a, 'b>(lines: &'a [&'b str], front: usize, end: usize) -> &'a [&'b str] {
     let stop = lines.len().saturating_sub(end);
     &lines[front.min(stop)..stop]
 }
 
-/// Appends the lines in which two messages differ, without the lines that they have in common at the start and at the
-/// end.
+/// Appends the lines in which two messages differ. The function leaves out the lines that both messages have in common
+/// at the start and at the end.
 fn write_messages(out: &mut Vec<u8>, wanted: &[&str], got: &[&str]) -> Result<(), AllocError> {
     if wanted.len() == got.len() {
         return write_pairs(out, wanted, got);
@@ -172,8 +175,8 @@ fn write_messages(out: &mut Vec<u8>, wanted: &[&str], got: &[&str]) -> Result<()
     write_each(out, "got", middle(got, 0, end))
 }
 
-/// Appends the differences between the messages of two packets. Appends nothing unless `wanted` and `got`, lines of two
-/// replies, both have a packet that spells a message.
+/// Appends the differences between the messages in two packets, which are contained in `wanted` and `got`, the lines of
+/// two replies. If one of the two lines contains no packet with a valid message, the function appends nothing.
 fn write_packets(
     out: &mut Vec<u8>,
     alloc: Global,
@@ -188,8 +191,8 @@ fn write_packets(
     write_messages(out, &wanted, &got)
 }
 
-/// Compares the packets in two replies line by line. For each pair that differs, appends the lines of `decode` that
-/// differ.
+/// Compares the packets in two replies line by line. For each pair of packets that differ, the function appends those
+/// lines that differ in the output of `decode`.
 fn write_changes(
     out: &mut Vec<u8>,
     alloc: Global,
@@ -207,8 +210,9 @@ fn write_changes(
     Ok(())
 }
 
-/// Appends the place of a call and its words. The place is its agent and its action with the line of the schedule, but
-/// the opening has no action. A `look` has a place after an action.
+/// Appends the place of a call, and then the words of the call. The place consists of the agent, the number of the
+/// action, and the action's line in the schedule; for an opening, it consists only of the agent. The place of a `look`
+/// is after an action.
 fn write_head(out: &mut Vec<u8>, held: &HeldAgent, words: &[u8]) -> Result<(), AllocError> {
     let (agent, words) = (Number(held.agent), Masked(words));
     match (held.verdict.action, held.line()) {
@@ -223,8 +227,57 @@ fn write_head(out: &mut Vec<u8>, held: &HeldAgent, words: &[u8]) -> Result<(), A
     }
 }
 
-/// The text that reports how an agent differs from the reference: the call, both replies, and their differences. If a
-/// line of the reply ends with a carriage return, the text mentions this, because it is shown as another character.
+/// Returns the trace of the action at which the comparison ended, together with the reasons, in the form that `explain`
+/// writes. If the comparison ended at the opening or after the last action, the result is empty.
+fn explained(alloc: Global, held: &HeldAgent) -> Result<Vec<u8>, AllocError> {
+    let (number, mut schedule, mut out) = (held.verdict.action, held.text, Vec::new(alloc));
+    if held.line() == 0 {
+        return Ok(out);
+    }
+    let range = Range {
+        agent: Some(held.agent),
+        from: number,
+        to: number,
+    };
+    match explain(alloc, &mut schedule, &mut out, &range, &mut Unwatched) {
+        Ok(_) => Ok(out),
+        Err(_) => Err(AllocError),
+    }
+}
+
+/// Appends the reasons for the reference's reply, in the words that `explain` uses.
+fn write_reasons(out: &mut Vec<u8>, alloc: Global, held: &HeldAgent) -> Result<(), AllocError> {
+    let trace = explained(alloc, held)?;
+    for line in str::from_utf8(&trace).unwrap_or("").lines() {
+        if let Some((_, reason)) = line.split_once(" because ") {
+            write_template(out, b"  reason: ~\n", &[Text(reason.as_bytes())])?;
+        }
+    }
+    Ok(())
+}
+
+/// Appends how many calls agree before the call that differs, the expected reply with its reasons, and the agent's
+/// reply.
+fn write_replies(
+    out: &mut Vec<u8>,
+    alloc: Global,
+    held: &HeldAgent,
+    wanted: &[u8],
+    got: &[u8],
+) -> Result<(), AllocError> {
+    write_template(
+        out,
+        b"  before: ~ calls agree\n",
+        &[Number(held.verdict.calls)],
+    )?;
+    write_lines(out, b"  wanted: ", wanted)?;
+    write_reasons(out, alloc, held)?;
+    write_lines(out, b"  got: ", got)
+}
+
+/// Returns the text that reports how an agent differs from the reference: the call, both replies, and their
+/// differences. If a line of the agent's reply ends in a carriage return, the text mentions the carriage return,
+/// because it is shown as another character.
 fn difference(
     alloc: Global,
     held: &HeldAgent,
@@ -234,8 +287,7 @@ fn difference(
 ) -> Result<Vec<u8>, AllocError> {
     let mut said = Vec::new(alloc);
     write_head(&mut said, held, words)?;
-    write_lines(&mut said, b"  wanted: ", wanted)?;
-    write_lines(&mut said, b"  got: ", got)?;
+    write_replies(&mut said, alloc, held, wanted, got)?;
     let mut lines = got.split(|b| *b == b'\n');
     if lines.any(|line| line.last() == Some(&b'\r')) {
         said.extend_from_slice(b"  a carriage return: lines end with a newline alone\n")?;
@@ -244,13 +296,14 @@ fn difference(
     Ok(said)
 }
 
-/// Appends the call at which the comparison ended, and returns the text of the expected reply to it.
+/// Appends the call at which the comparison ended, and returns the text of the expected reply to this call.
 fn wanted_text(call: &mut Vec<u8>, alloc: Global, held: &HeldAgent) -> Result<Vec<u8>, AllocError> {
     let reply = write_held_call(call, alloc, held)?;
     reply_text(alloc, &reply)
 }
 
-/// Reports where and how an agent differs from the reference, and adds this to the report.
+/// Prints the call at which an agent differs from the reference, and how the agent differs. The function also adds the
+/// disagreement to the report.
 fn tell(io: Io, report: &mut Report, held: &HeldAgent, got: &[u8]) -> Result<(), AllocError> {
     let mut call = Vec::new(io.alloc());
     let wanted = wanted_text(&mut call, io.alloc(), held)?;
@@ -260,8 +313,9 @@ fn tell(io: Io, report: &mut Report, held: &HeldAgent, got: &[u8]) -> Result<(),
     Ok(())
 }
 
-/// Prints how many calls agree. If some calls weren't compared, also prints the reason `why`.
-fn say_agreeing(io: Io, held: &HeldAgent, why: &[u8]) {
+/// Prints the number of calls that agree. If some calls weren't compared, the function also prints the reason, which is
+/// `why`.
+fn print_agreement(io: Io, held: &HeldAgent, why: &[u8]) {
     let (calls, action) = (Number(held.verdict.calls), Number(held.verdict.action));
     let text: &[u8] = match why {
         b"" => b"agent ~: ~ calls agree\n",
@@ -270,9 +324,10 @@ fn say_agreeing(io: Io, held: &HeldAgent, why: &[u8]) {
     io.report(text, &[Number(held.agent), calls, action, Text(why)]);
 }
 
-/// Prints a verdict, and returns its status. If the agent differs, adds the verdict to the report.
+/// Prints a verdict, and returns the exit status for it. If the agent differs, the function adds the verdict to the
+/// report.
 pub(super) fn tell_verdict<'b>(io: Io, report: &mut Report, held: &HeldAgent) -> CommandResult<'b> {
-    // The sums include this verdict already.
+    // The sums already include the verdict that is reported here.
     let is_first = report.counts.agents <= 1 && held.verdict.calls == 0;
     let (told, status): (&[u8], Status) = match &held.verdict.end {
         End::AllAgree => (b"", Status::Done),
@@ -283,33 +338,35 @@ pub(super) fn tell_verdict<'b>(io: Io, report: &mut Report, held: &HeldAgent) ->
         End::Ended => (b"the agent ended", Status::Device),
     };
     match status {
-        Status::Done => say_agreeing(io, held, told),
+        Status::Done => print_agreement(io, held, told),
         _ => tell(io, report, held, told)?,
     }
     Ok(status)
 }
 
-/// A report in JSON that grows, and the file to which it is written.
+/// A report in JSON to which disagreements are added, and the file to which the complete report is written.
 #[derive(Drop)]
 pub(super) struct Report<'a> {
     /// The file of the report, or `None` if no report is requested.
     path: Option<&'a str>,
     text: Vec<u8>,
-    /// The name of the kind of the present schedules, if schedules of several kinds are compared.
+    /// The name of the current kind of schedules, or `None` unless schedules of several kinds are compared.
     pub(super) kind: Option<&'static str>,
-    /// How many schedules were compared to their end.
+    /// The number of schedules that were compared to their end.
     pub(super) schedules: u64,
     /// The sums over the agents that were compared.
     pub(super) counts: Counts,
+    /// The number of calls with replies that differ, without the `look` calls.
+    differing: u64,
     pub(super) disagreements: u64,
     /// Whether a hunt ended with an error.
     pub(super) has_error: bool,
-    /// Whether memory ran out for a line.
+    /// Whether memory ran out while a line was added.
     is_cut: bool,
 }
 
 impl<'a> Report<'a> {
-    /// An empty report.
+    /// Creates an empty report.
     pub(super) fn new(alloc: Global, path: Option<&'a str>) -> Report<'a> {
         Report {
             path,
@@ -317,13 +374,14 @@ impl<'a> Report<'a> {
             kind: None,
             schedules: 0,
             counts: no_counts(),
+            differing: 0,
             disagreements: 0,
             has_error: false,
             is_cut: false,
         }
     }
 
-    /// Adds a disagreement. The agent's reply is in the verdict.
+    /// Adds a disagreement to the report. The agent's reply is contained in the verdict in `held`.
     pub(super) fn add(&mut self, held: &HeldAgent, call: &[u8], wanted: &[u8]) {
         let verdict = held.verdict;
         let (got, has_ended): (&[u8], bool) = match &verdict.end {
@@ -342,13 +400,15 @@ impl<'a> Report<'a> {
             got,
             has_ended,
         };
+        let differs = !has_ended && verdict.dump.is_none();
+        self.differing = self.differing.saturating_add(differs as u64);
         self.disagreements = self.disagreements.saturating_add(1);
         if write_disagreement(&mut self.text, &told).is_err() {
             self.is_cut = true;
         }
     }
 
-    /// Writes the report with the sums at its end, if a report is requested.
+    /// If a report is requested, adds the sums to it and writes the report to its file.
     fn save<'b>(&mut self, io: Io, status: Status) -> CommandResult<'b> {
         let Some(path) = self.path else {
             return Ok(status);
@@ -365,33 +425,42 @@ impl<'a> Report<'a> {
         io.save(path, &self.text, status)
     }
 
-    /// Reports the agents with unsupported calls and the unsupported `look` calls, and writes the report, if one is
-    /// requested. Returns `status`, or the status of a disagreement if no call but `open` was compared, or the status
-    /// of a device that failed. If a hunt ended with an error before any disagreement, nothing is reported.
+    /// Prints which calls were compared and which weren't ([`report_sums`]) and, if a report is requested, writes it.
+    /// The function normally returns `status`. If no call except `open` was compared, the function returns the status
+    /// of a disagreement, and if a device failed, it returns the status of a failed device. If a hunt ended with an
+    /// error before any disagreement, the function prints and writes nothing.
     pub(super) fn finish<'b>(&mut self, io: Io, status: Status) -> CommandResult<'b> {
         if self.has_error && self.disagreements == 0 {
             return Ok(status);
         }
-        self.save(io, told_unsupported(io, self.counts, status))
+        self.save(io, report_sums(io, self.counts, self.differing, status))
     }
 }
 
-/// Reports for how many agents the comparison ended at an unsupported call, and how many `look` calls are unsupported.
-/// If no call but the openings was compared because of this, agreement means nothing, and the status is that of a
-/// disagreement.
-fn told_unsupported(io: Io, counts: Counts, status: Status) -> Status {
-    let (agents, ended) = (counts.agents, counts.unsupported_agents);
+/// Prints the number of agents whose comparison ended at an unsupported call, and the number of unsupported `look`
+/// calls.
+fn tell_unsupported(io: Io, counts: Counts) {
     let looks = counts.unsupported_dumps;
     if looks > 0 {
         let _ = eprintln!(io.rt; "{looks} looks are unsupported");
     }
-    if ended > 0 {
-        let parts = [Number(agents), Number(ended)];
+    if counts.unsupported_agents > 0 {
+        let parts = [Number(counts.agents), Number(counts.unsupported_agents)];
         io.report(b"of ~ agents ~ ended at an unsupported call\n", &parts);
     }
-    if ended == 0 || counts.calls > agents || status != Status::Done {
+}
+
+/// Prints which calls are unsupported, and then how many calls and agents were compared. The argument `differing` is
+/// the number of calls with replies that differ. If only the openings were compared, agreement means nothing, so the
+/// function returns the status of a disagreement.
+fn report_sums(io: Io, counts: Counts, differing: u64, status: Status) -> Status {
+    tell_unsupported(io, counts);
+    let compared = Number(counts.calls.saturating_add(differing));
+    let parts = [compared, Number(counts.agents)];
+    io.report(b"compared: ~ calls of ~ agents\n", &parts);
+    if status != Status::Done || counts.calls > counts.openings {
         return status;
     }
-    let _ = eprintln!(io.rt; "no call but open was compared");
+    io.say(b"no call but open was compared\n");
     Status::Refused
 }

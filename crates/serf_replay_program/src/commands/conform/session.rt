@@ -1,8 +1,9 @@
-//! Compares an agent on standard input and output with the reference, and shortens the calls at which it fails
-//! (`--shrink`).
+//! Compares the agent on standard input and output with the reference, and shortens the list of calls at which the
+//! agent fails (`--shrink`).
 
 use super::HoldOptions;
 use super::hunting::Seeds;
+use super::missing::left_of;
 use super::report::{HeldAgent, Report, tell_verdict};
 use crate::command_error::{CommandError, CommandResult, Status};
 use crate::io::Io;
@@ -19,7 +20,7 @@ use serf_text::Part::Number;
 use std::alloc::{AllocError, Global};
 use std::io::{self, BufReader, Printer, StdinLock};
 
-/// An agent that is being compared, the options, and the results so far.
+/// A comparison: the agent that is being compared, the options, and the results so far.
 #[derive(Drop)]
 pub(super) struct Session<'a> {
     pub(super) io: Io<'a>,
@@ -28,7 +29,7 @@ pub(super) struct Session<'a> {
     pub(super) pipe: Pipe<BufReader<StdinLock<'static>>, Printer<'a, Io<'a>>>,
 }
 
-/// The text of the schedule with the calls that are left.
+/// Returns the text of the schedule with the remaining calls.
 fn text_of_left(alloc: Global, config: &Config, shrunk: &Shrunk) -> Result<Vec<u8>, AllocError> {
     let schedule = alone_schedule(alloc, config, &shrunk.calls).map_err(|_| AllocError)?;
     let mut text = Vec::new(alloc);
@@ -37,8 +38,9 @@ fn text_of_left(alloc: Global, config: &Config, shrunk: &Shrunk) -> Result<Vec<u
 }
 
 impl<'a> Session<'a> {
-    /// Shortens an agent's calls, up to the one at which it fails or whose `look` differs. Returns how many they were,
-    /// and the calls that are left. The opening isn't one of them.
+    /// Shortens the list of an agent's calls. The last call in this list is the call that fails or the call whose
+    /// `look` differs. Returns the number of calls in the original list, and the remaining calls. Neither the number
+    /// nor the remaining calls include the opening.
     fn shrunk_calls(
         &mut self,
         held: &HeldAgent,
@@ -54,8 +56,14 @@ impl<'a> Session<'a> {
         Ok((count, shrunk))
     }
 
-    /// Reports the calls that are left, and writes their schedule to the file or to standard error.
-    fn tell_shrunk<'b>(&self, config: &Config, count: usize, shrunk: &Shrunk) -> CommandResult<'b> {
+    /// Prints how many calls remain, and writes the schedule with these calls to the requested file or to standard
+    /// error.
+    fn report_shrunk<'b>(
+        &self,
+        config: &Config,
+        count: usize,
+        shrunk: &Shrunk,
+    ) -> CommandResult<'b> {
         let (left, count) = (Number(shrunk.calls.len() as u64), Number(count as u64));
         let text: &[u8] = if shrunk.is_smallest {
             b"shrunk to ~ of ~ calls\n"
@@ -71,14 +79,14 @@ impl<'a> Session<'a> {
         Ok(Status::Refused)
     }
 
-    /// Shortens the calls at which an agent fails. Returns the same status as without this. If the calls by themselves
-    /// don't fail, reports this.
-    fn shrink_found<'b>(&mut self, held: &HeldAgent) -> CommandResult<'b> {
+    /// Shortens the list of calls at which an agent fails. If the agent doesn't fail when it gets only these calls, the
+    /// function prints a message. Shortening the list doesn't change the exit status.
+    fn shrink_failing_calls<'b>(&mut self, held: &HeldAgent) -> CommandResult<'b> {
         let Some(config) = held.case.configs.get(held.agent as usize) else {
             return Ok(Status::Refused);
         };
         match self.shrunk_calls(held, config) {
-            Ok((count, Some(shrunk))) => self.tell_shrunk(config, count, &shrunk),
+            Ok((count, Some(shrunk))) => self.report_shrunk(config, count, &shrunk),
             Ok((count, None)) => {
                 let _ = eprintln!(self.io.rt; "the {count} calls don't fail by themselves");
                 Ok(Status::Refused)
@@ -87,20 +95,20 @@ impl<'a> Session<'a> {
         }
     }
 
-    /// Reports a verdict, and returns the status with which the command continues. The command doesn't continue if the
-    /// agent ended, or if its calls were shortened.
+    /// Prints a verdict, and returns the status with which the command continues. If the agent ended, or if the list of
+    /// its calls was shortened, the result is an error with the final status.
     pub(super) fn conclude<'b>(&mut self, held: &HeldAgent) -> CommandResult<'b> {
         let came = tell_verdict(self.io, &mut self.report, held);
         match came {
             Ok(Status::Refused) if self.asked.shrinks => {
-                Err(CommandError::Reported(self.shrink_found(held)?))
+                Err(CommandError::Reported(self.shrink_failing_calls(held)?))
             }
             Ok(Status::Device) => Err(CommandError::Reported(Status::Device)),
             _ => came,
         }
     }
 
-    /// Compares one agent with the reference.
+    /// Compares agent number `agent` with the reference.
     fn hold_agent<'b>(
         &mut self,
         text: &[u8],
@@ -126,7 +134,8 @@ impl<'a> Session<'a> {
         })
     }
 
-    /// Compares the agent with the number `only`, or all agents. Returns the largest status of all of them.
+    /// Compares agent number `only` or, if `only` is `None`, all agents. Returns the largest of the compared agents'
+    /// statuses.
     fn hold_agents<'b>(
         &mut self,
         text: &[u8],
@@ -144,7 +153,8 @@ impl<'a> Session<'a> {
         Ok(status)
     }
 
-    /// Reports the results for all agents, and returns the exit status. If `ended` is an error, reports it first.
+    /// Prints the results for all agents, and returns the exit status. If `ended` is an error, the function reports
+    /// this error first.
     pub(super) fn finish<'b>(&mut self, ended: CommandResult) -> CommandResult<'b> {
         let status = match ended {
             Ok(status) => status,
@@ -154,10 +164,10 @@ impl<'a> Session<'a> {
     }
 }
 
-/// What agents are compared on.
+/// The schedules on which agents are compared.
 #[derive(Clone, Copy)]
 pub(super) enum Against<'a> {
-    /// The schedule with this text. Either only the agent with this number is compared, or all agents.
+    /// A schedule with its text and its run. If a number is given, only the agent with this number is compared.
     Schedule(&'a [u8], &'a Case, Option<u64>),
     Seeds(&'a Seeds),
 }
@@ -181,24 +191,38 @@ pub(super) fn hold_against<'b>(io: Io, asked: HoldOptions, against: Against) -> 
     session.finish(ended)
 }
 
-/// The run of the schedule with this text.
+/// Runs the schedule in `text`, and returns the run.
 fn case_in<'a>(io: Io, text: &[u8]) -> Result<Case, CommandError<'a>> {
     let schedule = parse_schedule(io.alloc(), text)?;
     let case = case_of(io.alloc(), schedule)?;
     if case.configs.is_empty() {
-        let _ = eprintln!(io.rt; "the schedule has no agents: nothing was compared");
+        let _ = eprintln!(io.rt; "the schedule has no agents");
     }
     Ok(case)
 }
 
-/// Compares the agents of the schedule in a file with the reference. A bad line is refused before any call is written.
+/// Returns the text of the schedule on which agents are compared, which is the schedule in the file `path` without the
+/// calls that the agents don't support. If the command line requests it, the function also writes this text to a file.
+fn text_in<'a>(io: Io, path: &'a str, asked: HoldOptions<'a>) -> Result<Vec<u8>, CommandError<'a>> {
+    let text = io.file(path)?.of_schedule().text()?;
+    let text = left_of(io.alloc(), text, asked.missing)?;
+    if let Some(save) = asked.save
+        && !asked.shrinks
+    {
+        io.save(save, &text, Status::Done)?;
+    }
+    Ok(text)
+}
+
+/// Compares the agents of the schedule in a file with the reference. If the schedule contains a bad line, the function
+/// refuses it before it writes any call.
 pub(super) fn hold_file<'a>(
     io: Io,
     matches: &ArgMatches<'a>,
     path: &'a str,
     asked: HoldOptions<'a>,
 ) -> CommandResult<'a> {
-    let text = io.file(path)?.of_schedule().text()?;
+    let text = text_in(io, path, asked)?;
     let case = case_in(io, &text)?;
     let only = agents_of(io.alloc(), matches, &text)?.first().copied();
     hold_against(io, asked, Against::Schedule(&text, &case, only))

@@ -1,41 +1,43 @@
-//! The text of the verdicts on a log, and the places of its lines.
+//! Writes the text of the verdicts on a log, including the places of the log's lines.
 
+use super::starts::{Kept, Start, StartedProgram, starts_of};
 use serf_judge::{
-    BadLine, DatedLine, Delivered, Delivery, EventEntry, Key, Log, NodeTally, Offered, Reader,
-    Tally, after_leave, first_again, first_event_twice, first_not_later, first_query_twice,
-    first_unfired, is_own_snapshot, log_nodes, missed_events, receivers, serf_clocks,
-    tally_repeats,
+    BadLine, DatedLine, Delivered, Delivery, EventEntry, Key, Log, NodeTally, Offered, RunEntry,
+    Tally, cut_off, first_again, first_event_twice, first_not_later, first_query_twice,
+    first_unfired, log_nodes, missed_events, receivers, tally_repeats,
 };
-use serf_snapshot::{Clocks, read_clocks};
 use serf_text::Part::{self, Masked, Number, Text, WholeQuoted};
 use serf_text::write_template;
 use std::alloc::{AllocError, Global};
 
-/// The maximum number of bad lines that are reported, and of nodes that are named for an event that they never had.
+/// The maximum number of bad lines that are reported, and the maximum number of nodes that are named for a missed
+/// event.
 const NAMED: usize = 16;
 
-/// One of several logs.
+/// One of the logs that are judged together.
 #[derive(Clone, Copy)]
-pub(super) struct LogFile<'a> {
-    pub(super) name: &'a str,
-    /// How many lines the logs before it have together.
-    pub(super) before: u64,
+pub(crate) struct LogFile<'a> {
+    pub(crate) name: &'a str,
+    /// The total number of lines in the logs before this log.
+    pub(crate) before: u64,
 }
 
-/// The verdicts so far, with one line for each.
+/// The verdicts so far, with one line for each verdict.
 #[derive(Drop)]
-pub(super) struct Verdicts<'a> {
-    pub(super) text: Vec<u8>,
-    /// Whether a promise is broken, something can be handed out again after a start from a snapshot, or a line is bad.
-    pub(super) is_broken: bool,
-    /// The logs that are judged, in order. If there is only one log, it has no name.
-    pub(super) logs: &'a [LogFile<'a>],
-    /// The dates of their lines, in order.
-    pub(super) dates: &'a [DatedLine],
+pub(crate) struct Verdicts<'a> {
+    pub(crate) text: Vec<u8>,
+    /// Whether a promise is broken, a line is bad, or something can be handed out again after a program is started on a
+    /// snapshot.
+    pub(crate) is_broken: bool,
+    /// The logs that are judged, in order. A log has no name if it is the only one.
+    pub(crate) logs: &'a [LogFile<'a>],
+    /// The dates of the lines in all logs, in order.
+    pub(crate) dates: &'a [DatedLine],
 }
 
-/// Returns the words for a line: these two, its number, and its date in brackets, if it has one. The first word and the
-/// date may come from outside: each of their bytes that isn't printable ASCII becomes a `?`.
+/// Returns the text that names a line: the two `words`, the line's number and, if the line has a date, the date in
+/// brackets. The first word and the date may come from outside, so each byte in them that isn't printable ASCII is
+/// replaced with a `?`.
 fn line_text<'x>(
     alloc: Global,
     words: [&'x str; 2],
@@ -55,7 +57,7 @@ fn line_text<'x>(
 }
 
 impl<'a> Verdicts<'a> {
-    /// The date of a line, which is empty if the line has none.
+    /// Returns the date of a line, or an empty text if the line has no date.
     fn date(&self, line: u64) -> &'a [u8] {
         let place = self.dates.partition_point(|dated| dated.line < line);
         match self.dates.get(place) {
@@ -64,9 +66,10 @@ impl<'a> Verdicts<'a> {
         }
     }
 
-    /// A line, counted from 1 over all logs, with its date. If there are several logs, it has the name of its log and
-    /// its number there.
-    fn line(&self, alloc: Global, line: u64) -> Result<Vec<u8>, AllocError> {
+    /// Returns the text that names a line, together with the line's date. The number `line` is counted from 1 over all
+    /// logs. If there are several logs, the text contains the name of the line's log, and the line's number in that
+    /// log.
+    pub(crate) fn line(&self, alloc: Global, line: u64) -> Result<Vec<u8>, AllocError> {
         let mut place = (["line", " "], line);
         for log in self.logs {
             if self.logs.len() > 1 && log.before < line {
@@ -77,7 +80,7 @@ impl<'a> Verdicts<'a> {
         line_text(alloc, words, number, self.date(line))
     }
 
-    /// The first and the last of the lines that repeat earlier ones.
+    /// Returns the texts that name the first and the last line in a tally.
     fn span(&self, alloc: Global, tally: &Tally) -> Result<(Vec<u8>, Vec<u8>), AllocError> {
         let (first, last) = (tally.first_line, tally.last_line);
         if tally.count == 1 || self.logs.len() > 1 {
@@ -92,13 +95,14 @@ impl<'a> Verdicts<'a> {
         write_template(&mut self.text, text, parts)
     }
 
-    /// Appends `text` with `parts`, as [`Verdicts::put`] does, and remembers that something is broken.
+    /// Appends `text` with `parts`, as [`Verdicts::put`] does, and records that something is broken.
     fn write_broken(&mut self, text: &[u8], parts: &[Part]) -> Result<(), AllocError> {
         self.is_broken = true;
         self.put(text, parts)
     }
 
-    /// Appends that the log has no lines of this kind, so that the promise was not checked.
+    /// Appends a line which states that a promise was not checked, because the log contains no lines of the kind that
+    /// `lines` names.
     fn write_not_asked(&mut self, promise: &str, lines: &str) -> Result<(), AllocError> {
         let parts = [Text(promise.as_bytes()), Text(lines.as_bytes())];
         self.put(b"~: not asked: no ~ lines\n", &parts)
@@ -110,7 +114,8 @@ impl<'a> Verdicts<'a> {
         self.put(b" ~ ~ ~\n", &[Number(event.time), name, payload])
     }
 
-    /// Appends the first bad lines of a log, and the number of the others. A log with a bad line counts as broken.
+    /// Appends the first bad lines of a log, and the number of further bad lines. If there is a bad line, the function
+    /// records that something is broken.
     fn write_bad(&mut self, alloc: Global, bad: &[BadLine]) -> Result<(), AllocError> {
         for told in bad.iter().take(NAMED) {
             let cause = told.cause;
@@ -126,8 +131,8 @@ impl<'a> Verdicts<'a> {
         Ok(())
     }
 
-    /// Appends how often, and when, something was handed out to a node again, according to `told`. `name` is what was
-    /// handed out, such as `an event`.
+    /// Appends how often a node was handed something again, with the times and the lines. The argument `told` contains
+    /// the numbers, and `name` contains the words for what was handed out, such as `an event`.
     fn write_tally<'b>(
         &mut self,
         alloc: Global,
@@ -151,8 +156,8 @@ impl<'a> Verdicts<'a> {
         }
     }
 
-    /// Appends for each node how often it was handed one of `entries` again, and that the other nodes were handed each
-    /// of them once.
+    /// For each node with repeats, appends how often the node was handed one of `entries` again. After that, appends
+    /// the number of other nodes, to which each entry was handed once.
     fn write_tallies<E: Delivered>(
         &mut self,
         alloc: Global,
@@ -174,8 +179,8 @@ impl<'a> Verdicts<'a> {
         self.put(text, &[Number(others as u64), Text(kind.as_bytes())])
     }
 
-    /// Appends that something was handed out to a node twice. `words` has the promise and the kind of what was handed
-    /// out.
+    /// Appends a line which states that line `late` hands a node the same event or query as line `early`. The argument
+    /// `words` contains the name of the promise and the kind of the entries.
     fn write_repeat(
         &mut self,
         alloc: Global,
@@ -197,8 +202,9 @@ impl<'a> Verdicts<'a> {
         }
     }
 
-    /// Judges whether something was handed out to a node twice. `twice` has the positions of the first two entries for
-    /// which this is so. `words` has the promise, what was handed out (such as `an event`), and its kind.
+    /// Judges whether a node was handed the same event or query twice. The argument `twice` contains the positions of
+    /// the first two entries that hand a node the same event or query. The argument `words` contains the name of the
+    /// promise, the words for one entry (such as `an event`), and the kind of the entries.
     fn judge_once<E: Delivered>(
         &mut self,
         alloc: Global,
@@ -221,7 +227,7 @@ impl<'a> Verdicts<'a> {
         }
     }
 
-    /// Judges whether each event was fired on a line above, or in another log.
+    /// Judges whether each event was fired on an earlier line, or in another log.
     fn judge_fired(&mut self, alloc: Global, log: &Log) -> Result<(), AllocError> {
         let (fired, events) = (log.fired.as_slice(), log.events.as_slice());
         let later = self.logs.iter().skip(1);
@@ -238,10 +244,10 @@ impl<'a> Verdicts<'a> {
         }
     }
 
-    /// Judges whether each node fired only at later times than those of what was handed out to it on lines above.
+    /// Judges whether each node fired only at later times than those of the events that it was handed on earlier lines.
     fn judge_later(&mut self, alloc: Global, log: &Log) -> Result<(), AllocError> {
         let (fired, events) = (log.fired.as_slice(), log.events.as_slice());
-        // The entries of a log are in the order of their lines, so the only possible error is that memory runs out.
+        // The entries of a log are in the order of their lines, so no error is possible except that memory runs out.
         let found = first_not_later(alloc, fired, events).map_err(|_| AllocError)?;
         if let Some((place, earlier)) = found
             && let Some(firing) = fired.get(place)
@@ -259,8 +265,8 @@ impl<'a> Verdicts<'a> {
         }
     }
 
-    /// Appends the first [`NAMED`] of `nodes`, separated by commas. If there are more nodes, appends that there are
-    /// others.
+    /// Appends at most the first [`NAMED`] names in `nodes`, separated by commas. If there are more nodes, the function
+    /// also appends `and others`.
     fn write_nodes(&mut self, nodes: &[&[u8]]) -> Result<(), AllocError> {
         for (place, node) in nodes.iter().take(NAMED).enumerate() {
             let text: &[u8] = if place == 0 { b" ~" } else { b", ~" };
@@ -272,7 +278,8 @@ impl<'a> Verdicts<'a> {
         self.put(b"\n", &[])
     }
 
-    /// Appends each event that some node never had, with the nodes that lack it, and the number of these events.
+    /// Appends each event that some nodes were never handed, together with these nodes. After that, appends a line with
+    /// the number of missed events.
     fn write_missed(&mut self, alloc: Global, events: &[EventEntry]) -> Result<(), AllocError> {
         if events.is_empty() {
             return self.write_not_asked("Missed", "event");
@@ -293,9 +300,55 @@ impl<'a> Verdicts<'a> {
         self.put(text, &[Number(few), count])
     }
 
-    /// Judges a log, after lines that report how much was read and which lines are bad. If `tells_missed` is true,
-    /// reports which events the nodes missed.
-    pub(super) fn judge(
+    /// Appends the handlers that began and never ended, in the order of the lines on which they began. Returns the
+    /// number of these handlers.
+    fn write_cut_off(&mut self, alloc: Global, runs: &[RunEntry]) -> Result<u64, AllocError> {
+        let found = cut_off(alloc, runs)?;
+        for run in &found {
+            let line = self.line(alloc, run.line)?;
+            let parts = [Text(&line), Masked(run.key.node)];
+            self.put(b"Handlers: ~ began and never ended: ~", &parts)?;
+            self.write_event(&run.key)?;
+        }
+        Ok(found.len() as u64)
+    }
+
+    /// Appends the handlers that ended with a status other than 0, in the order of the lines on which they ended.
+    /// Returns the number of these handlers.
+    fn write_failed(&mut self, alloc: Global, runs: &[RunEntry]) -> Result<u64, AllocError> {
+        let mut count: u64 = 0;
+        for run in runs {
+            let Some(status) = &run.status else { continue };
+            if status.as_slice() == b"0".as_slice() {
+                continue;
+            }
+            count = count.saturating_add(1);
+            let line = self.line(alloc, run.event.line)?;
+            let node = Masked(run.event.node.as_slice());
+            let parts = [Text(&line), Masked(status.as_slice()), node];
+            self.put(b"Handlers: ~ ended with status ~: ~", &parts)?;
+            self.write_event(&run.event.handed().key)?;
+        }
+        Ok(count)
+    }
+
+    /// Appends the handlers that failed or never ended, and the number of handlers that began. If the log contains no
+    /// lines about handlers, the function appends nothing.
+    fn write_runs(&mut self, alloc: Global, runs: &[RunEntry]) -> Result<(), AllocError> {
+        if runs.is_empty() {
+            return Ok(());
+        }
+        let unended = self.write_cut_off(alloc, runs)?;
+        let failed = self.write_failed(alloc, runs)?;
+        let began = runs.iter().filter(|run| run.status.is_none()).count() as u64;
+        let parts = [Number(began), Number(unended), Number(failed)];
+        self.put(b"Handlers: ~ began, ~ never ended, ~ failed\n", &parts)
+    }
+
+    /// Judges a log. The text begins with the number of entries that were read and with the bad lines, which are
+    /// followed by the verdicts. If `tells_missed` is true, the verdicts are followed by the events that nodes missed.
+    /// The text ends with the lines about handlers.
+    pub(crate) fn judge(
         &mut self,
         alloc: Global,
         log: &Log,
@@ -325,11 +378,12 @@ impl<'a> Verdicts<'a> {
         if tells_missed {
             self.write_missed(alloc, events)?;
         }
-        Ok(())
+        self.write_runs(alloc, log.runs.as_slice())
     }
 
-    /// Judges which of `entries` can be handed out to the node again, if there are any entries. `words` has what the
-    /// snapshot keeps, such as `its events up to`, and the kind of clock.
+    /// Judges whether one of `entries` can be handed to the node again. If there are no entries, the function appends
+    /// nothing. The argument `words` contains the phrase for what the snapshot keeps, such as `its events up to `, and
+    /// the name of the clock.
     fn judge_again<'b, E: Offered>(
         &mut self,
         alloc: Global,
@@ -357,7 +411,7 @@ impl<'a> Verdicts<'a> {
         }
     }
 
-    /// Appends that what this entry's line handed out can be handed out again.
+    /// Appends a line which states that the event or query in `entry` can be handed out again.
     fn write_again<E: Delivered>(&mut self, alloc: Global, entry: &E) -> Result<(), AllocError> {
         let Delivery { line, key } = entry.handed();
         let line = self.line(alloc, line)?;
@@ -366,7 +420,7 @@ impl<'a> Verdicts<'a> {
         self.write_broken(text, &parts)
     }
 
-    /// Judges what a program that starts from a node's snapshot can hand out again.
+    /// Judges whether a program that is started on a node's snapshot can hand anything out again.
     fn judge_reader(
         &mut self,
         alloc: Global,
@@ -382,16 +436,17 @@ impl<'a> Verdicts<'a> {
         self.judge_again(alloc, queries, kept, words, clocks.query_clock)
     }
 
-    /// Judges what can be handed out again after a start from a node's snapshot. `reads` says which program is started.
-    pub(super) fn judge_kept(
+    /// Judges what can be handed out again after a program is started on a node's snapshot. The argument `reads`
+    /// selects the program.
+    pub(crate) fn judge_kept(
         &mut self,
         alloc: Global,
         log: &Log,
         node: &[u8],
         snapshot: &[u8],
-        reads: ReadBy,
+        reads: StartedProgram,
     ) -> Result<(), AllocError> {
-        let (first, second) = readers_of(snapshot, reads);
+        let (first, second) = starts_of(snapshot, reads);
         let kept = |start: Start| Kept {
             node,
             snapshot,
@@ -402,88 +457,6 @@ impl<'a> Verdicts<'a> {
         match second {
             Some(second) => self.judge_reader(alloc, log, &kept(second)),
             None => Ok(()),
-        }
-    }
-}
-
-/// How a program is started on a snapshot.
-#[derive(Clone, Copy)]
-pub(super) struct Start {
-    pub(super) reader: Reader,
-    /// The words for it, with a space before them. Empty if there is only one way to start it.
-    pub(super) how: &'static str,
-}
-
-/// How a program may be started on a snapshot. `reads` says which program it is. If it is stock Serf and the snapshot
-/// has a line `leave`, it may be started with `-rejoin` or without it.
-pub(super) fn readers_of(snapshot: &[u8], reads: ReadBy) -> (Start, Option<Start>) {
-    let is_own = match reads {
-        ReadBy::Serf => false,
-        ReadBy::Own => true,
-        ReadBy::Writer => is_own_snapshot(snapshot),
-    };
-    let start = |reader, how| Start { reader, how };
-    if is_own {
-        let keeps = is_own_snapshot(snapshot);
-        return (start(Reader::Agent { keeps }, ""), None);
-    }
-    let (rejoined, started) = (
-        Reader::Serf { rejoins: true },
-        Reader::Serf { rejoins: false },
-    );
-    if after_leave(snapshot).len() == snapshot.len() {
-        return (start(rejoined, ""), None);
-    }
-    (
-        start(rejoined, " with -rejoin"),
-        Some(start(started, " without -rejoin")),
-    )
-}
-
-/// The program that starts from the snapshots.
-#[derive(Clone, Copy)]
-pub(super) enum ReadBy {
-    /// The program that wrote them. This is an agent of this project if the snapshots have lines that only these agents
-    /// write, and otherwise stock Serf.
-    Writer,
-    /// Stock Serf.
-    Serf,
-    /// An agent of this project. It keeps its events if the snapshot has lines that only agents of this kind write.
-    Own,
-}
-
-/// A node's snapshot, and the program that starts from it.
-#[derive(Clone, Copy)]
-struct Kept<'b> {
-    node: &'b [u8],
-    snapshot: &'b [u8],
-    reader: Reader,
-    /// How it is started, with a space before it. It may be empty.
-    how: &'b str,
-}
-
-impl<'b> Kept<'b> {
-    /// The clocks that the program restores.
-    fn clocks(&self) -> Clocks {
-        match self.reader {
-            Reader::Serf { rejoins } => serf_clocks(self.snapshot, rejoins),
-            Reader::Agent { .. } => read_clocks(self.snapshot),
-        }
-    }
-
-    /// What the snapshot keeps of events and of queries. These words come before the name of the clock.
-    fn what(&self) -> [&'b str; 2] {
-        match self.reader {
-            Reader::Agent { keeps: true } => ["its events up to ", "its queries up to "],
-            _ => ["", ""],
-        }
-    }
-
-    /// The text that is appended if nothing can be handed out again.
-    fn none(&self) -> &'b [u8] {
-        match self.reader {
-            Reader::Agent { keeps: true } => b": nothing can be handed out again\n",
-            _ => b": nothing was handed out above it\n",
         }
     }
 }

@@ -1,5 +1,0 @@
-use Rattle.serf_explain.proofs.Names.{AddsReasons}
-use Rattle.serf_explain.proofs.reasons.write_failed_merge.Given as goal
-
-abbrev pub invariant-loop-line : goal.invariant-loop-line
-invariant-loop-line l = AddsReasons l.context.number l.fn.out.items l.out.items
