@@ -13,6 +13,8 @@ import (
 	"github.com/hashicorp/memberlist"
 )
 
+var errCut = errors.New("the network is cut")
+
 // cutTransport is a transport that a test can cut off. It then neither sends nor accepts anything.
 type cutTransport struct {
 	*memberlist.NetTransport
@@ -36,7 +38,7 @@ func newCutTransport(t *testing.T) *cutTransport {
 					stream.Close()
 					continue
 				}
-				c.streams <- stream
+				c.streams <- cutStream{stream, c}
 			case <-stopped:
 				return
 			}
@@ -60,13 +62,30 @@ func (c *cutTransport) WriteToAddress(b []byte, addr memberlist.Address) (time.T
 
 func (c *cutTransport) DialTimeout(addr string, timeout time.Duration) (net.Conn, error) {
 	if c.isCut.Load() {
-		return nil, errors.New("the network is cut")
+		return nil, errCut
 	}
-	return c.NetTransport.DialTimeout(addr, timeout)
+	stream, err := c.NetTransport.DialTimeout(addr, timeout)
+	if err != nil {
+		return nil, err
+	}
+	return cutStream{stream, c}, nil
 }
 
 func (c *cutTransport) DialAddressTimeout(addr memberlist.Address, timeout time.Duration) (net.Conn, error) {
 	return c.DialTimeout(addr.Addr, timeout)
+}
+
+// cutStream is a stream of a cutTransport. If it is still open when the transport is cut off, nothing more leaves by it.
+type cutStream struct {
+	net.Conn
+	transport *cutTransport
+}
+
+func (c cutStream) Write(b []byte) (int, error) {
+	if c.transport.isCut.Load() {
+		return 0, errCut
+	}
+	return c.Conn.Write(b)
 }
 
 // handlerRuns counts, over all lives of a node, how often the handler of each event ran.
