@@ -44,6 +44,8 @@ class Part:
         self.output = ""
         self.crates = {}
         self.seconds = self.processor = 0.0
+        # The checks that failed in an earlier run of the same command, if this is its second run.
+        self.first_failures = []
 
     def run(self, words, env=None):
         """Runs a command, and adds the counts of its last line. Its lines go to `on_line`, or are shown after it ends."""

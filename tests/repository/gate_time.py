@@ -1,4 +1,5 @@
-"""What the gate prints about its own time: how long it will take, how many jobs prove a crate, and when it took too long.
+"""What the gate prints about its own time: how long it will take, how many jobs prove a crate, and when it took too long. It
+also checks which script runs a second time after it failed.
 
 The crates, the page's rows and the run of `rt ci` are stand-ins.
 """
@@ -132,9 +133,47 @@ def whole(count):
         count.check(f"of {longest} seconds at most, {failed} failed", found == (1, failed), found)
 
 
+# Scripts of which the first waits by the clock, and the last tries something new in each run.
+AGENT, CLIENT, CLUSTER = SCRIPTS = ["tests/library/agent.py", "tests/library/rpc_client.py", "tests/library/kept_cluster.py"]
+
+
+def runs_of(failing):
+    """Runs the three scripts, where `failing` has how many runs of each fail first. Returns how often each ran, how many
+    failed at the end, and what is said of second runs."""
+    script = checks.gate_script()
+    runs = dict.fromkeys(SCRIPTS, 0)
+
+    def run_script(name, *_):
+        runs[name] += 1
+        part = gate.Part(name)
+        if runs[name] <= failing.get(name, 0):
+            part.failed, part.output = 1, "FAILED TestSlow: too late\n0 passed, 1 failed\n"
+        return part
+
+    script.run_script = run_script
+    with contextlib.redirect_stdout(io.StringIO()):
+        parts = script.run_scripts(SCRIPTS, {})
+    assert [part.name for part in parts] == SCRIPTS
+    return [*runs.values()], sum(part.failed for part in parts), script.ran_twice(parts)
+
+
+def second_runs(count):
+    said = [f"ran twice: {AGENT} failed next to other scripts: TestSlow"]
+    for name, failing, wanted in (
+        ("no script failed", {}, ([1, 1, 1], 0, [])),
+        ("a script failed once", {AGENT: 1}, ([2, 1, 1], 0, said)),
+        ("a script failed twice", {AGENT: 2}, ([2, 1, 1], 1, said)),
+        ("two scripts failed", {AGENT: 1, CLIENT: 1}, ([1, 1, 1], 2, [])),
+        ("a script that tries something new failed", {CLUSTER: 1}, ([1, 1, 1], 1, [])),
+        ("such a script failed as well", {AGENT: 1, CLUSTER: 1}, ([2, 1, 1], 1, said)),
+    ):
+        found = runs_of(failing)
+        count.check(name, found == wanted, found)
+
+
 def of_the_time(count):
     gate.rows = lambda: ROWS
-    for part in (costs, too_long, lanes, one_job, said_first, whole):
+    for part in (costs, too_long, lanes, one_job, said_first, whole, second_runs):
         part(count)
 
 
