@@ -138,8 +138,8 @@ AGENT, CLIENT, CLUSTER = SCRIPTS = ["tests/library/agent.py", "tests/library/rpc
 
 
 def runs_of(failing):
-    """Runs the three scripts, where `failing` has how many runs of each fail first. Returns how often each ran, how many
-    failed at the end, and what is said of second runs."""
+    """Runs the three scripts. `failing` says how many runs of each script fail before one passes. Returns how often each ran, how many
+    failed at the end, and what the gate prints about second runs."""
     script = checks.gate_script()
     runs = dict.fromkeys(SCRIPTS, 0)
 
