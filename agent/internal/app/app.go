@@ -45,7 +45,10 @@ func Start(conf config.Config, out io.Writer) (*App, error) {
 		return nil, err
 	}
 	level, _ := logs.LevelOf(conf.LogLevel)
-	a := &App{config: conf, configAsRead: configAsRead, log: logs.New(out, level), endReason: make(chan error, 1), closing: make(chan struct{}), pumpDone: make(chan struct{}), closeSyslog: func() {}}
+	a := &App{
+		config: conf, configAsRead: configAsRead, log: logs.New(out, level), endReason: make(chan error, 1),
+		closing: make(chan struct{}), pumpDone: make(chan struct{}), closeSyslog: func() {},
+	}
 	if conf.Syslog {
 		closeSyslog, err := a.log.ToSyslog("", "", conf.SyslogFacility)
 		if err != nil {
@@ -61,26 +64,8 @@ func Start(conf config.Config, out io.Writer) (*App, error) {
 		return nil, err
 	}
 	events := make(chan serf.Event)
-	nodeConfig, cleanUp, err := a.nodeConfig(events)
-	if err != nil {
+	if err := a.startNode(events, scripts); err != nil {
 		return nil, err
-	}
-	a.log.Print("[INFO] agent: Serf agent starting")
-	if a.node, err = serf.Create(nodeConfig); err != nil {
-		cleanUp()
-		var fieldErr *serf.FieldError
-		if errors.As(err, &fieldErr) && fieldErr.Field == "SnapshotPath" {
-			err = fmt.Errorf("-snapshot: %w", fieldErr.Err)
-		}
-		return nil, err
-	}
-	a.runner = handlers.New(a.log.Logger, conf.HandlerTimeout, scripts, func() handlers.Self {
-		return handlers.Self{Name: conf.NodeName, Tags: a.tags.all()}
-	})
-	a.countNames(scripts)
-	if nodeConfig.TrackHandlers {
-		a.runner.Track(a.node)
-		a.runner.Resume(a.node.Unfinished())
 	}
 	go a.pumpEvents(events)
 	go a.watchNode()
@@ -92,6 +77,32 @@ func Start(conf config.Config, out io.Writer) (*App, error) {
 	}
 	a.server.Store(server)
 	return a, nil
+}
+
+// startNode creates the node, which sends its events to a channel, and the runner of its handlers.
+func (a *App) startNode(events chan<- serf.Event, scripts []handlers.Script) error {
+	nodeConfig, cleanUp, err := a.nodeConfig(events)
+	if err != nil {
+		return err
+	}
+	a.log.Print("[INFO] agent: Serf agent starting")
+	if a.node, err = serf.Create(nodeConfig); err != nil {
+		cleanUp()
+		var fieldErr *serf.FieldError
+		if errors.As(err, &fieldErr) && fieldErr.Field == "SnapshotPath" {
+			err = fmt.Errorf("-snapshot: %w", fieldErr.Err)
+		}
+		return err
+	}
+	a.runner = handlers.New(a.log.Logger, a.config.HandlerTimeout, scripts, func() handlers.Self {
+		return handlers.Self{Name: a.config.NodeName, Tags: a.tags.all()}
+	})
+	a.countNames(scripts)
+	if nodeConfig.TrackHandlers {
+		a.runner.Track(a.node)
+		a.runner.Resume(a.node.Unfinished())
+	}
+	return nil
 }
 
 // pumpEvents passes the node's events on to the handlers and to streams of the command line, in order, while the

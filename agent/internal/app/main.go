@@ -43,6 +43,12 @@ func Main(args []string, out, errs io.Writer) int {
 		fmt.Fprintln(out, "The configuration is valid.")
 		return 0
 	}
+	return startAndRun(args, conf, out, errs)
+}
+
+// startAndRun starts an agent, which measures itself and joins the cluster, and runs it until it ends. It returns the exit
+// status.
+func startAndRun(args []string, conf config.Config, out, errs io.Writer) int {
 	// From here on, signals don't end the process by themselves.
 	signals := make(chan os.Signal, 8)
 	signal.Notify(signals, syscall.SIGINT, syscall.SIGTERM, syscall.SIGHUP)

@@ -21,24 +21,7 @@ type assignment struct {
 func Parse(args []string, out io.Writer) (Config, error) {
 	var assignments []assignment
 	var files []string
-	flags := flag.NewFlagSet("kitchenrue-agent", flag.ContinueOnError)
-	flags.SetOutput(io.Discard)
-	flags.Usage = func() {}
-	for i := range settings {
-		setting := &settings[i]
-		if setting.flag != "" {
-			flags.Var(&flagVar{setting, &assignments}, setting.flag, setting.help)
-		}
-	}
-	addFiles := func(read func(string) ([]string, error)) func(string) error {
-		return func(path string) error {
-			found, err := read(path)
-			files = append(files, found...)
-			return err
-		}
-	}
-	flags.Func("config-file", "JSON file of settings (repeatable)", addFiles(func(path string) ([]string, error) { return []string{path}, nil }))
-	flags.Func("config-dir", "folder whose *.json files are read in the order of their names", addFiles(filesIn))
+	flags := newFlagSet(&assignments, &files)
 	if err := flags.Parse(args); errors.Is(err, flag.ErrHelp) {
 		printUsage(out)
 		return Config{}, ErrHelp
@@ -61,6 +44,31 @@ func Parse(args []string, out io.Writer) (Config, error) {
 		}
 	}
 	return config, config.validate()
+}
+
+// newFlagSet returns the flags. Parsing them appends each setting with its value to assignments, and the path of each file
+// to read to files.
+func newFlagSet(assignments *[]assignment, files *[]string) *flag.FlagSet {
+	flags := flag.NewFlagSet("kitchenrue-agent", flag.ContinueOnError)
+	flags.SetOutput(io.Discard)
+	flags.Usage = func() {}
+	for i := range settings {
+		setting := &settings[i]
+		if setting.flag != "" {
+			flags.Var(&flagVar{setting, assignments}, setting.flag, setting.help)
+		}
+	}
+	addFiles := func(read func(string) ([]string, error)) func(string) error {
+		return func(path string) error {
+			found, err := read(path)
+			*files = append(*files, found...)
+			return err
+		}
+	}
+	oneFile := func(path string) ([]string, error) { return []string{path}, nil }
+	flags.Func("config-file", "JSON file of settings (repeatable)", addFiles(oneFile))
+	flags.Func("config-dir", "folder whose *.json files are read in the order of their names", addFiles(filesIn))
+	return flags
 }
 
 // printUsage prints the help text.

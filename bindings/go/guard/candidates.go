@@ -153,7 +153,9 @@ func (c *candidates) signal() {
 // add makes a node a candidate, or adds a newer report to an existing candidate. If the node can't be a candidate now,
 // add returns nil and the reason. If waiting isn't nil, a push/pull waits for the candidate, and memberlist receives
 // alive only after release.
-func (c *candidates) add(node nameAt, from origin, peer netip.Addr, source net.Addr, alive []byte, waiting *group) (*candidate, Reason) {
+func (c *candidates) add(
+	node nameAt, from origin, peer netip.Addr, source net.Addr, alive []byte, waiting *group,
+) (*candidate, Reason) {
 	now := time.Now()
 	c.mu.Lock()
 	defer c.mu.Unlock()
@@ -166,27 +168,9 @@ func (c *candidates) add(node nameAt, from origin, peer netip.Addr, source net.A
 		found = nil
 	}
 	if found == nil {
-		limits := []limitKey{{origin: from, target: node.addr.Addr()}}
-		if from == fromAccepted {
-			// (so that no other host can use up the limit of the host at that address)
-			limits = []limitKey{{origin: from, target: node.addr.Addr(), peer: peer}, {origin: from, peer: peer}}
-		}
-		for _, key := range limits {
-			if c.limits[key] >= c.perAddress {
-				return nil, Unproven
-			}
-		}
-		if limit := pingLimits[from]; !c.buckets[from].takeIfAllowed(now, limit.burst, limit.perSecond) {
+		if found = c.addNew(node, from, peer, now); found == nil {
 			return nil, Unproven
 		}
-		found = &candidate{nameAt: node, origin: from, limits: limits, number: c.newNumber(), reportedAt: now}
-		for _, key := range limits {
-			c.limits[key]++
-		}
-		c.byKey[node], c.byNumber[found.number] = found, found
-		c.queue = append(c.queue, found)
-		c.count.Add(1)
-		c.signal()
 	}
 	found.reporter = source
 	if waiting != nil {
@@ -196,6 +180,33 @@ func (c *candidates) add(node nameAt, from origin, peer netip.Addr, source net.A
 		found.alive, found.later = alive, nil
 	}
 	return found, held
+}
+
+// addNew makes a node a candidate. It returns nil if too many candidates have its address or were reported by the peer,
+// or if too many candidates were pinged already. The caller holds mu.
+func (c *candidates) addNew(node nameAt, from origin, peer netip.Addr, now time.Time) *candidate {
+	limits := []limitKey{{origin: from, target: node.addr.Addr()}}
+	if from == fromAccepted {
+		// (so that no other host can use up the limit of the host at that address)
+		limits = []limitKey{{origin: from, target: node.addr.Addr(), peer: peer}, {origin: from, peer: peer}}
+	}
+	for _, key := range limits {
+		if c.limits[key] >= c.perAddress {
+			return nil
+		}
+	}
+	if limit := pingLimits[from]; !c.buckets[from].takeIfAllowed(now, limit.burst, limit.perSecond) {
+		return nil
+	}
+	added := &candidate{nameAt: node, origin: from, limits: limits, number: c.newNumber(), reportedAt: now}
+	for _, key := range limits {
+		c.limits[key]++
+	}
+	c.byKey[node], c.byNumber[added.number] = added, added
+	c.queue = append(c.queue, added)
+	c.count.Add(1)
+	c.signal()
+	return added
 }
 
 // newNumber returns a sequence number that nobody can guess and that no other candidate has. The number is also large,

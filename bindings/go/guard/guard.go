@@ -119,19 +119,24 @@ func (s Settings) withDefaults(c *memberlist.Config) (Settings, error) {
 	if s.Delegates.Max == 0 {
 		s.Delegates = VersionRange{c.DelegateProtocolMin, c.DelegateProtocolMax}
 	}
+	return s, s.check(c)
+}
+
+// check returns an error if the settings contradict each other or memberlist's configuration.
+func (s Settings) check(c *memberlist.Config) error {
 	switch {
 	case s.StreamBytes < minStreamBuffer:
-		return s, fmt.Errorf("guard: StreamBytes is %d, below the minimum of %d", s.StreamBytes, minStreamBuffer)
+		return fmt.Errorf("guard: StreamBytes is %d, below the minimum of %d", s.StreamBytes, minStreamBuffer)
 	case s.AllBytes < s.StreamBytes:
-		return s, fmt.Errorf("guard: AllBytes is %d, below StreamBytes, which is %d", s.AllBytes, s.StreamBytes)
+		return fmt.Errorf("guard: AllBytes is %d, below StreamBytes, which is %d", s.AllBytes, s.StreamBytes)
 	case c.UDPBufferSize > s.PacketBytes:
-		return s, fmt.Errorf("guard: UDPBufferSize is %d, above PacketBytes, which is %d", c.UDPBufferSize, s.PacketBytes)
+		return fmt.Errorf("guard: UDPBufferSize is %d, above PacketBytes, which is %d", c.UDPBufferSize, s.PacketBytes)
 	case c.Name == "" || len(c.Name) > maxName:
-		return s, fmt.Errorf("guard: Name has %d bytes, and must have 1 to %d", len(c.Name), maxName)
+		return fmt.Errorf("guard: Name has %d bytes, and must have 1 to %d", len(c.Name), maxName)
 	case c.ProtocolVersion < 2 && (c.Keyring != nil || len(c.SecretKey) > 0):
-		return s, fmt.Errorf("guard: ProtocolVersion is %d, and encryption needs 2 or above", c.ProtocolVersion)
+		return fmt.Errorf("guard: ProtocolVersion is %d, and encryption needs 2 or above", c.ProtocolVersion)
 	}
-	return s, nil
+	return nil
 }
 
 // core is the state that all inspectors share.

@@ -223,17 +223,7 @@ func DefaultConfig() *Config {
 
 // withDefaults returns a copy of the configuration in which unset fields have their defaults, or an error if a field is invalid.
 func (c *Config) withDefaults() (*Config, error) {
-	copied := *c
-	copied.Tags = make(map[string]string, len(c.Tags))
-	for key, value := range c.Tags {
-		copied.Tags[key] = value
-	}
-	if c.MemberlistConfig == nil {
-		copied.MemberlistConfig = memberlist.DefaultLANConfig()
-	} else {
-		memberlistConfig := *c.MemberlistConfig
-		copied.MemberlistConfig = &memberlistConfig
-	}
+	copied := c.clone()
 	if copied.NodeName == "" {
 		name, err := os.Hostname()
 		if err != nil {
@@ -268,7 +258,23 @@ func (c *Config) withDefaults() (*Config, error) {
 			*limit = defaultQueryLimit
 		}
 	}
-	return &copied, copied.validate()
+	return copied, copied.validate()
+}
+
+// clone returns a copy of the configuration with its own Tags and MemberlistConfig, which are never nil in the copy.
+func (c *Config) clone() *Config {
+	copied := *c
+	copied.Tags = make(map[string]string, len(c.Tags))
+	for key, value := range c.Tags {
+		copied.Tags[key] = value
+	}
+	if c.MemberlistConfig == nil {
+		copied.MemberlistConfig = memberlist.DefaultLANConfig()
+	} else {
+		memberlistConfig := *c.MemberlistConfig
+		copied.MemberlistConfig = &memberlistConfig
+	}
+	return &copied
 }
 
 // validate returns a FieldError for the first field whose value is not allowed.

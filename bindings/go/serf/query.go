@@ -159,20 +159,8 @@ func (s *Serf) fireQuery(name string, payload []byte, params QueryParam) (*Query
 	var response *QueryResponse
 	var fired *serfagent.FiredQuery
 	err := s.useAgent(func() (err error) {
-		if !s.pipe.hasRoom() {
-			return ErrBusy
-		}
-		if len(s.openQueries) >= MaxQueries {
-			return ErrQueries
-		}
-		id := rand.Uint32()
-		if fired, err = s.agent.Query(s.now(), id, []byte(name), payload, agentParams); err != nil {
-			return err
-		}
-		response = s.openQuery(queryKey{fired.Time, id}, params)
-		s.stageQuery(fired.Query, payload)
-		s.flushStaged()
-		return nil
+		fired, response, err = s.fireAndOpen(name, payload, params, agentParams)
+		return err
 	})
 	if errors.Is(err, serfagent.TooLarge) {
 		return nil, fmt.Errorf("query exceeds limit of %d bytes", s.config.QuerySizeLimit)
@@ -185,6 +173,28 @@ func (s *Serf) fireQuery(name string, payload []byte, params QueryParam) (*Query
 	}
 	s.queueBroadcast(s.queries, fired.Packet, nil)
 	return response, nil
+}
+
+// fireAndOpen fires a query on the proved agent, registers it until its deadline, and publishes it on this node if the
+// node passes its filters. The caller holds agentMu.
+func (s *Serf) fireAndOpen(
+	name string, payload []byte, params QueryParam, agentParams serfagent.QueryParams,
+) (*serfagent.FiredQuery, *QueryResponse, error) {
+	if !s.pipe.hasRoom() {
+		return nil, nil, ErrBusy
+	}
+	if len(s.openQueries) >= MaxQueries {
+		return nil, nil, ErrQueries
+	}
+	id := rand.Uint32()
+	fired, err := s.agent.Query(s.now(), id, []byte(name), payload, agentParams)
+	if err != nil {
+		return nil, nil, err
+	}
+	response := s.openQuery(queryKey{fired.Time, id}, params)
+	s.stageQuery(fired.Query, payload)
+	s.flushStaged()
+	return fired, response, nil
 }
 
 // encodeFilters returns the encoded filters of a query.

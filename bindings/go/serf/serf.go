@@ -194,46 +194,78 @@ func closeAgent(agent Agent, file *snapshotFile) {
 
 // create creates a node over a proved agent.
 func create(c *Config, agent Agent, file *snapshotFile, keys *keyring, meta []byte, previousNodes []PreviousNode) (*Serf, error) {
+	s := newSerf(c, agent, file, keys, meta, previousNodes)
+	if err := s.open(); err != nil {
+		s.cancel()
+		return nil, err
+	}
+	s.startGoroutines()
+	return s, nil
+}
+
+// newSerf returns a node that isn't in the network yet.
+func newSerf(c *Config, agent Agent, file *snapshotFile, keys *keyring, meta []byte, previousNodes []PreviousNode) *Serf {
 	ctx, cancel := context.WithCancel(context.Background())
 	s := &Serf{
-		config: c, log: c.logger(), agent: agent, keys: keys, snapshot: file, previousNodes: previousNodes, startTime: time.Now(), ctx: ctx, cancel: cancel,
-		shutdownCh: make(chan struct{}), pipe: newPipe(), undelivered: make(chan int, 1),
-		openQueries: map[queryKey]*QueryResponse{}, firings: newFiringQueue(), packets: newQueue(),
-		states: newQueue(), queryDue: make(chan struct{}, 1),
-		internalQueries: make(chan *serfagent.PendingQuery, 64), conflicts: make(chan struct{}, 1), missedEvents: make(chan struct{}, 1),
-		announceNeeded: make(chan struct{}, 1), refuteNeeded: make(chan struct{}, 1), tags: c.Tags, nodeMeta: meta, stateRequests: make(chan chan<- []byte),
-		memberLines: newLineQueue(),
-		eventNames:  newNameCounter("events"), queryNames: newNameCounter("queries"),
+		config:          c,
+		log:             c.logger(),
+		agent:           agent,
+		keys:            keys,
+		snapshot:        file,
+		previousNodes:   previousNodes,
+		startTime:       time.Now(),
+		ctx:             ctx,
+		cancel:          cancel,
+		shutdownCh:      make(chan struct{}),
+		pipe:            newPipe(),
+		undelivered:     make(chan int, 1),
+		openQueries:     map[queryKey]*QueryResponse{},
+		firings:         newFiringQueue(),
+		packets:         newQueue(),
+		states:          newQueue(),
+		queryDue:        make(chan struct{}, 1),
+		internalQueries: make(chan *serfagent.PendingQuery, 64),
+		conflicts:       make(chan struct{}, 1),
+		missedEvents:    make(chan struct{}, 1),
+		announceNeeded:  make(chan struct{}, 1),
+		refuteNeeded:    make(chan struct{}, 1),
+		tags:            c.Tags,
+		nodeMeta:        meta,
+		stateRequests:   make(chan chan<- []byte),
+		memberLines:     newLineQueue(),
+		eventNames:      newNameCounter("events"),
+		queryNames:      newNameCounter("queries"),
 	}
 	s.coalescer = newCoalescer(c, s.pipe.add)
 	s.coalescer.markSuperseded = s.markSuperseded
 	s.members = newMembers(c, s.log, func(e MemberEvent) { s.publish(e) }, s.memberLines.add)
-	var err error
-	if s.lastState, err = agent.LocalState(nil, nil); err != nil {
-		cancel()
-		return nil, err
+	return s
+}
+
+// open reads what the node needs of the proved agent's state, and starts memberlist.
+func (s *Serf) open() (err error) {
+	if s.lastState, err = s.agent.LocalState(nil, nil); err != nil {
+		return err
 	}
-	if s.coordinates, err = newCoordinates(c); err != nil {
-		cancel()
-		return nil, err
+	if s.coordinates, err = newCoordinates(s.config); err != nil {
+		return err
 	}
-	s.seenTimes = newSeenTimes(c.EventBuffer, s.eventClock())
+	s.seenTimes = newSeenTimes(s.config.EventBuffer, s.eventClock())
 	s.warnOfFarClocks()
 	if err := s.limitKeptEvents(); err != nil {
-		cancel()
-		return nil, err
+		return err
 	}
 	if err := s.trackHandlers(); err != nil {
-		cancel()
-		return nil, &FieldError{"SnapshotPath", err}
+		return &FieldError{"SnapshotPath", err}
 	}
-	if err := s.listen(); err != nil {
-		cancel()
-		return nil, err
-	}
+	return s.listen()
+}
+
+// startGoroutines starts the goroutines of the node.
+func (s *Serf) startGoroutines() {
 	go func() {
-		if c.EventCh != nil {
-			s.undelivered <- s.pipe.deliver(c.EventCh, ctx.Done(), endGrace)
+		if s.config.EventCh != nil {
+			s.undelivered <- s.pipe.deliver(s.config.EventCh, s.ctx.Done(), endGrace)
 		} else {
 			s.undelivered <- 0
 		}
@@ -253,7 +285,6 @@ func create(c *Config, agent Agent, file *snapshotFile, keys *keyring, meta []by
 	go s.reconnect()
 	go s.rejoin()
 	go s.catchUp()
-	return s, nil
 }
 
 // listen starts memberlist.
@@ -394,11 +425,7 @@ func (s *Serf) Shutdown() error {
 	s.agentMu.Unlock()
 	s.cancel()
 	s.goroutines.Wait()
-	if undelivered := <-s.undelivered; undelivered > 0 && s.openEvents != nil {
-		s.log.Printf("[INFO] serf: %d events were handed out but never received from EventCh: Unfinished has them in the next life", undelivered)
-	} else if undelivered > 0 {
-		s.log.Printf("[WARN] serf: %d events were handed out but never received from EventCh", undelivered)
-	}
+	s.logUndelivered(<-s.undelivered)
 	if closeErr := s.closeFile(hasFailed); err == nil {
 		err = closeErr
 	}
@@ -409,6 +436,16 @@ func (s *Serf) Shutdown() error {
 	}
 	close(s.shutdownCh)
 	return err
+}
+
+// logUndelivered logs how many events were handed out but never received from EventCh, if there are any.
+func (s *Serf) logUndelivered(number int) {
+	switch {
+	case number > 0 && s.openEvents != nil:
+		s.log.Printf("[INFO] serf: %d events were handed out but never received from EventCh: Unfinished has them in the next life", number)
+	case number > 0:
+		s.log.Printf("[WARN] serf: %d events were handed out but never received from EventCh", number)
+	}
 }
 
 // closeFile writes the lines that wait for the file, and closes the file. If the file has failed already, closeFile
