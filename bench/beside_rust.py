@@ -110,7 +110,10 @@ def main():
             print(f"{name}: {ours / actions:.0f} ns an action, plain Rust {theirs / actions:.0f}: {ours / theirs:.2f} times", flush=True)
         for per_time, count in MERGES.items():
             ours, theirs = compare_merges(program, work, per_time, count)
-            print(f"a merge of 512 slots that were seen, {per_time} events of a time: {ours:.1f} microseconds, plain Rust {theirs:.1f}: {ours / theirs:.2f} times", flush=True)
+            print(
+                f"a merge of 512 slots that were seen, {per_time} events of a time: {ours:.1f} microseconds, plain Rust {theirs:.1f}: {ours / theirs:.2f} times",
+                flush=True,
+            )
 
 
 main()

@@ -23,7 +23,14 @@ def main():
         shutil.copytree(os.path.join(SOURCES, SERF), os.path.join(folder, SERF), ignore=shutil.ignore_patterns("*_test.go"))
         shutil.copy(os.path.join(HERE, "beside_serf", "figures_test.go"), package)
         env = dict(os.environ, GO111MODULE="off", GOPATH=f"{folder}:{SOURCES}")
-        ran = subprocess.run(["go", "test", "-v", "-count=1", "-run", "TestFigures", "."], cwd=package, env=env, stdin=subprocess.DEVNULL, capture_output=True, text=True)
+        ran = subprocess.run(
+            ["go", "test", "-v", "-count=1", "-run", "TestFigures", "."],
+            cwd=package,
+            env=env,
+            stdin=subprocess.DEVNULL,
+            capture_output=True,
+            text=True,
+        )
         if ran.returncode:
             sys.exit(f"beside_serf.py: {(ran.stdout + ran.stderr)[-1500:]}")
         print("".join(line + "\n" for line in ran.stdout.split("\n") if line.startswith("serf: ")), end="")

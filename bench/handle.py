@@ -25,7 +25,9 @@ def main():
     with tempfile.TemporaryDirectory() as folder:
         host = os.path.join(folder, "embedding")
         cc = os.environ.get("CC", "cc")
-        status, said = c_library.ran([cc, *c_library.STRICT, "-O2", "-o", host, os.path.join(TOP, "bench", "embedding.c"), c_library.STORE, c_library.LIBRARY])
+        status, said = c_library.ran(
+            [cc, *c_library.STRICT, "-O2", "-o", host, os.path.join(TOP, "bench", "embedding.c"), c_library.STORE, c_library.LIBRARY]
+        )
         for _ in range(rounds if status == 0 else 0):
             for words in ([bench, "agents"], [host, *folders]):
                 status, said = c_library.ran(words)

@@ -73,16 +73,14 @@ NOT_RUN = {
 # The blocks that aren't commands, by the page and the word that they begin with: what compares them, or what they are.
 LISTINGS = {
     "docs/AGENT.md": {"TIME": AGENT},
-    "docs/HOST.md": {
-        "serf_agent_receive(&agent,": PACKAGES,
-        "with": PACKAGES,
-        "let": PACKAGES,
-        "node,": EMBED,
-    },
+    "docs/HOST.md": {"serf_agent_receive(&agent,": PACKAGES, "with": PACKAGES, "let": PACKAGES, "node,": EMBED},
     "PUBLISHING.md": {"./test": RELEASE},
     "bindings/go/README.md": {"require": "two lines of a go.mod"},
     "bindings/python/README.md": {"import": EMBED},
-    "bindings/rust/README.md": {"[dependencies]": "two lines of a Cargo.toml", "let": "how a host with tokio calls, which no test compiles"},
+    "bindings/rust/README.md": {
+        "[dependencies]": "two lines of a Cargo.toml",
+        "let": "how a host with tokio calls, which no test compiles",
+    },
     "crates/*/CALLING.md": {"": "contracts, generated from the sources by tools/calling.py"},
     "docs/ARCHITECTURE.md": {"serf_agent_c": "what exists in Go, as a picture"},
     "docs/CONFORMANCE.md": {"agent": CONFORM, "seed": CONFORM},

@@ -29,7 +29,9 @@ HEAP = os.path.join(BINDINGS_C, "serf_agent_heap.c")
 
 def ran(words, **more):
     """Runs a command. Returns its status and its output."""
-    done = subprocess.run(words, stdin=subprocess.DEVNULL, stdout=subprocess.PIPE, stderr=subprocess.STDOUT, text=True, errors="replace", **more)
+    done = subprocess.run(
+        words, stdin=subprocess.DEVNULL, stdout=subprocess.PIPE, stderr=subprocess.STDOUT, text=True, errors="replace", **more
+    )
     return done.returncode, done.stdout
 
 

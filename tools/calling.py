@@ -139,8 +139,13 @@ def conditions(crate):
 
 def calls(crate):
     """The rows of a crate's calls: types with their methods, then functions."""
-    order = sorted(exported_items(crate), key=lambda item: ((item[0] or item[1])[0].islower(), (item[0] or item[1]).lower(), item[0] is not None))
-    return [f"| `{signature_text}` | {purpose} | {', '.join(f'`{name}`' if name != 'one' else name for name in clauses(lines))} |" for _, _, signature_text, purpose, lines in order]
+    order = sorted(
+        exported_items(crate), key=lambda item: ((item[0] or item[1])[0].islower(), (item[0] or item[1]).lower(), item[0] is not None)
+    )
+    return [
+        f"| `{signature_text}` | {purpose} | {', '.join(f'`{name}`' if name != 'one' else name for name in clauses(lines))} |"
+        for _, _, signature_text, purpose, lines in order
+    ]
 
 
 def function(text, name):

@@ -60,7 +60,14 @@ def text_of(target, text, flags):
                 file.write(data)
         found, made = {}, os.path.join(folder, "serf_agent_c.o")
         for to in ("--flags", made):
-            done = subprocess.run([os.path.join(folder, "build"), to, target], env={**os.environ, "CLANG": CLANG}, stdin=subprocess.DEVNULL, stdout=subprocess.PIPE, stderr=subprocess.PIPE, text=True)
+            done = subprocess.run(
+                [os.path.join(folder, "build"), to, target],
+                env={**os.environ, "CLANG": CLANG},
+                stdin=subprocess.DEVNULL,
+                stdout=subprocess.PIPE,
+                stderr=subprocess.PIPE,
+                text=True,
+            )
             if done.returncode:
                 raise Failed(f"{CLANG} can't compile the text for {target}:\n{done.stderr[-2000:]}")
             found[to] = done.stdout.strip()
@@ -76,5 +83,9 @@ def not_checked(published):
         return f"{CLANG} is not on PATH"
     theirs = re.search(rb"^compiler (.*)$", published, re.M)
     if theirs is None or theirs[1].decode(errors="replace") != own:
-        return f"{CLANG} is {own!r} here, and the digest is of {theirs[1].decode(errors='replace')!r}" if theirs else "the digests name no compiler"
+        return (
+            f"{CLANG} is {own!r} here, and the digest is of {theirs[1].decode(errors='replace')!r}"
+            if theirs
+            else "the digests name no compiler"
+        )
     return None

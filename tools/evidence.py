@@ -103,7 +103,11 @@ class Evidence:
         os.makedirs(FOLDER, exist_ok=True)
         lines = [f"{name} {sums[name]} {refusals[name].kind} {refusals[name].goal}" for name in sorted(refusals)]
         with open(f"{path_of(self.crate)}.new", "w", encoding="utf-8") as file:
-            file.write("\n".join([f"# What refused each edit of crates/{self.crate}/mutants. Written by tools/mutants.py --write.", now, *lines, ""]))
+            file.write(
+                "\n".join(
+                    [f"# What refused each edit of crates/{self.crate}/mutants. Written by tools/mutants.py --write.", now, *lines, ""]
+                )
+            )
         os.replace(f"{path_of(self.crate)}.new", path_of(self.crate))
 
 

@@ -52,7 +52,14 @@ class Part:
         began = time.monotonic()
         watch = costs.Costs()
         lines = []
-        settings = {"cwd": TOP, "stdin": subprocess.DEVNULL, "stdout": subprocess.PIPE, "stderr": subprocess.STDOUT, "text": True, "errors": "replace"}
+        settings = {
+            "cwd": TOP,
+            "stdin": subprocess.DEVNULL,
+            "stdout": subprocess.PIPE,
+            "stderr": subprocess.STDOUT,
+            "text": True,
+            "errors": "replace",
+        }
         with subprocess.Popen(words, env=env, **settings) as process:
             watch.watch(process.pid)
             for line in process.stdout:
@@ -102,7 +109,10 @@ class Progress:
         proved = PROVED.match(line)
         if proved and proved[1] in self.left:
             del self.left[proved[1]]
-            print(f"-- {self.count - len(self.left)} of {self.count} crates, {self.share():.0f} % of the proofs' cost, after {(time.monotonic() - self.began) / 60:.0f} minutes", flush=True)
+            print(
+                f"-- {self.count - len(self.left)} of {self.count} crates, {self.share():.0f} % of the proofs' cost, after {(time.monotonic() - self.began) / 60:.0f} minutes",
+                flush=True,
+            )
 
     def share(self):
         """How many percent of the proofs' cost are done, by the rows."""
@@ -132,7 +142,9 @@ def chain_costs(crates):
         costs = {}
     # The crates above a crate are before it in this order, so their costs are known.
     for crate in sorted(crates, key=lambda it: -len(it.below())):
-        costs_above = [chain_cost[it.folder] for it in crates if it.folder in chain_cost and any(below.folder == crate.folder for below in it.below())]
+        costs_above = [
+            chain_cost[it.folder] for it in crates if it.folder in chain_cost and any(below.folder == crate.folder for below in it.below())
+        ]
         chain_cost[crate.folder] = costs.get(crate.name, UNKNOWN) + max(costs_above, default=0)
     return chain_cost
 

@@ -19,7 +19,9 @@ def mark_path(top):
 
 def git(top, *arguments):
     """What a command of git prints."""
-    return subprocess.run(["git", *arguments], cwd=top, check=True, stdout=subprocess.PIPE, stderr=subprocess.DEVNULL, text=True).stdout.strip()
+    return subprocess.run(
+        ["git", *arguments], cwd=top, check=True, stdout=subprocess.PIPE, stderr=subprocess.DEVNULL, text=True
+    ).stdout.strip()
 
 
 def state(top):

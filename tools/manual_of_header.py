@@ -19,7 +19,10 @@ COMMENT = re.compile(r"/\*(.*?)\*/", re.S)
 # How a line of a long comment of the store's header begins.
 STAR = re.compile(r"^ \*(?: |$)", re.M)
 # The parts of the header that are on the page: its calls and the headings above them, its enums and its structs.
-PART = re.compile(r"(?P<comments>(?:/\*(?:(?!\*/).)*\*/\n)*)(?:(?P<gives>uint32_t|enum \w+|void|const char \*) ?(?P<call>serf_\w+)\((?P<words>[^)]*)\);|(?P<kind>enum|struct) (?P<name>\w+) \{\n(?P<body>.*?)\n\};)|(?P<head>/\* [A-Z][^*]* \*/)(?=\n\n)", re.S)
+PART = re.compile(
+    r"(?P<comments>(?:/\*(?:(?!\*/).)*\*/\n)*)(?:(?P<gives>uint32_t|enum \w+|void|const char \*) ?(?P<call>serf_\w+)\((?P<words>[^)]*)\);|(?P<kind>enum|struct) (?P<name>\w+) \{\n(?P<body>.*?)\n\};)|(?P<head>/\* [A-Z][^*]* \*/)(?=\n\n)",
+    re.S,
+)
 
 
 def escape_groff(text):
@@ -89,9 +92,45 @@ def manual_page():
     title, rest, calls, types = parts_of(HEADER)
     file_title, file_rest, file_calls, file_types = parts_of(STORE)
     text_title, text_rest, text_calls, _ = parts_of(TEXT)
-    lines = ['.\\" Made from include/serf_agent.h by tools/manual_of_header.py.', '.TH SERF_AGENT 3 "" "Kitchenrue"', ".SH NAME", "serf_agent \\- one proved Serf agent in C", ".SH SYNOPSIS", ".nf"]
-    lines += [".B #include <serf_agent.h>", ".B #include <serf_agent_store.h>", ".B #include <serf_agent_text.h>", ".PP", ".B cc host.c $(pkg\\-config \\-\\-cflags \\-\\-libs serf_agent)", ".fi", ".SH DESCRIPTION", escape_groff(title), *paragraphs(rest)]
-    lines += [".SH CALLS", "Each call returns a value of", ".IR \"enum serf_agent_code\" .", *calls, ".SH THE FILE", escape_groff(file_title), *paragraphs(file_rest), *file_calls, ".SH SENTENCES", escape_groff(text_title), *paragraphs(text_rest), *text_calls, ".SH TYPES", *types, *file_types, ".SH SEE ALSO", ".BR serf\\-replay (1),", "docs/HOST.md: what to call when, and the file."]
+    lines = [
+        '.\\" Made from include/serf_agent.h by tools/manual_of_header.py.',
+        '.TH SERF_AGENT 3 "" "Kitchenrue"',
+        ".SH NAME",
+        "serf_agent \\- one proved Serf agent in C",
+        ".SH SYNOPSIS",
+        ".nf",
+    ]
+    lines += [
+        ".B #include <serf_agent.h>",
+        ".B #include <serf_agent_store.h>",
+        ".B #include <serf_agent_text.h>",
+        ".PP",
+        ".B cc host.c $(pkg\\-config \\-\\-cflags \\-\\-libs serf_agent)",
+        ".fi",
+        ".SH DESCRIPTION",
+        escape_groff(title),
+        *paragraphs(rest),
+    ]
+    lines += [
+        ".SH CALLS",
+        "Each call returns a value of",
+        ".IR \"enum serf_agent_code\" .",
+        *calls,
+        ".SH THE FILE",
+        escape_groff(file_title),
+        *paragraphs(file_rest),
+        *file_calls,
+        ".SH SENTENCES",
+        escape_groff(text_title),
+        *paragraphs(text_rest),
+        *text_calls,
+        ".SH TYPES",
+        *types,
+        *file_types,
+        ".SH SEE ALSO",
+        ".BR serf\\-replay (1),",
+        "docs/HOST.md: what to call when, and the file.",
+    ]
     return "\n".join(lines) + "\n"
 
 

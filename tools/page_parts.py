@@ -33,7 +33,11 @@ def read(name):
 def literal(text):
     """The literal of these bytes. A line of the text is a line of the literal."""
     written = {ord("\\"): "\\\\", ord('"'): '\\"'}
-    return 'b"' + "".join(written.get(byte) or (chr(byte) if byte == 10 or 32 <= byte < 127 else f"\\x{byte:02x}") for byte in text.encode()) + '"'
+    return (
+        'b"'
+        + "".join(written.get(byte) or (chr(byte) if byte == 10 or 32 <= byte < 127 else f"\\x{byte:02x}") for byte in text.encode())
+        + '"'
+    )
 
 
 def constant(about, name, text):
@@ -61,12 +65,27 @@ def files():
             texts.append("")
     assert blanks == ["TITLE", "TITLE", "TONE", "VERDICT", "STILL", "DATA", "SCRIPT"], blanks
     lines = script.splitlines(keepends=True)
-    abouts = ("up to the title", "up to the heading", "up to the tone of the verdict", "up to the verdict", "up to what is shown without the script", "up to the data", "up to the script", "from the script on")
+    abouts = (
+        "up to the title",
+        "up to the heading",
+        "up to the tone of the verdict",
+        "up to the verdict",
+        "up to what is shown without the script",
+        "up to the data",
+        "up to the script",
+        "from the script on",
+    )
     names = ("OPENING", "HEADING", "TONE", "VERDICT", "STILL", "DATA", "SCRIPT", "ENDING")
-    made = {"frame.rt": "//! The fixed parts of the page between its blanks. tools/page_parts.py makes this file from examples/timeline.\n\n"}
+    made = {
+        "frame.rt": "//! The fixed parts of the page between its blanks. tools/page_parts.py makes this file from examples/timeline.\n\n"
+    }
     made["frame.rt"] += "\n".join(constant(f"The page {about}.", name, text) for about, name, text in zip(abouts, names, texts))
     for number, start in enumerate(range(0, len(lines), LINES), 1):
-        made[f"script_{number}.rt"] = f"//! Part {number} of the page's script. tools/page_parts.py makes this file from examples/timeline.\n\n" + constant(f"Part {number} of the script.", f"SCRIPT_{number}", "".join(lines[start:start + LINES]))
+        made[
+            f"script_{number}.rt"
+        ] = f"//! Part {number} of the page's script. tools/page_parts.py makes this file from examples/timeline.\n\n" + constant(
+            f"Part {number} of the script.", f"SCRIPT_{number}", "".join(lines[start : start + LINES])
+        )
     return made
 
 

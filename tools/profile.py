@@ -175,7 +175,9 @@ def proved(crate, begin):
     """Proves a crate from nothing. Returns the process's meter, its output, its status, and the checked modules."""
     with tempfile.TemporaryDirectory() as kept, tempfile.TemporaryFile("w+") as crate.out:
         words = [*begin, "check", *crate.words(["--jobs", "1"]), "--incremental", kept]
-        with subprocess.Popen(words, cwd=crate.folder, stdin=subprocess.DEVNULL, stdout=subprocess.PIPE, stderr=subprocess.STDOUT, text=True, errors="replace") as process:
+        with subprocess.Popen(
+            words, cwd=crate.folder, stdin=subprocess.DEVNULL, stdout=subprocess.PIPE, stderr=subprocess.STDOUT, text=True, errors="replace"
+        ) as process:
             meter = Meter(process)
             output = process.stdout.read()
         return meter, output, process.returncode, checked_modules(kept)

@@ -25,5 +25,12 @@ def fault_of_build(*names):
         except (unproved.Stopped, OSError) as why:
             return str(why)
         return None
-    built = subprocess.run([os.path.join(TOP, "prove"), *names], stdin=subprocess.DEVNULL, stdout=subprocess.PIPE, stderr=subprocess.STDOUT, text=True, errors="replace")
+    built = subprocess.run(
+        [os.path.join(TOP, "prove"), *names],
+        stdin=subprocess.DEVNULL,
+        stdout=subprocess.PIPE,
+        stderr=subprocess.STDOUT,
+        text=True,
+        errors="replace",
+    )
     return built.stdout[-2000:] if built.returncode else None

@@ -50,7 +50,11 @@ def replaced(text, old, new):
 
 def committed(top):
     listed = subprocess.run(["git", "ls-files", "-z"], cwd=top, check=True, stdout=subprocess.PIPE, text=True).stdout
-    return [path for path in listed.split("\0") if path and os.path.isfile(os.path.join(top, path)) and not os.path.islink(os.path.join(top, path))]
+    return [
+        path
+        for path in listed.split("\0")
+        if path and os.path.isfile(os.path.join(top, path)) and not os.path.islink(os.path.join(top, path))
+    ]
 
 
 def change(new, top=TOP):

@@ -11,8 +11,8 @@ An edit's hash covers
   the edited function, and the whole of its trait impls. An impl of one of the repository's own traits counts only if the trait is
   reached, or one of the impl's functions is named in the edited function.
 
-Other bodies, other proofs, comments, layout and the texts of errors don't count. A hash can't see a set of lemmas that a tactic uses by a wide name, or
-an instance that is found and not named. The gate's drawn share of all edits covers these.
+Other bodies, other proofs, comments, layout and the texts of errors don't count. A hash can't see a set of lemmas that a tactic uses by
+a wide name, or an instance that is found and not named. The gate's drawn share of all edits covers these.
 """
 
 import hashlib
@@ -31,7 +31,9 @@ GHOST_USE = re.compile(r"ghost use\s+([^\s{};]+?)(?:\.\{([^}]*)\})?(?:\s+as\s+(\
 MODULE = re.compile(r"Rattle\.(serf_\w+)\.(specs|proofs)\.?(.*)")
 
 # An import of code.
-RUST_USE = re.compile(r"^\s*(?:pub(?:\([^)]*\))? )?use\s+((?:crate|super|self|serf_\w+)[\w:]*?)(?:::\{([^;]*)\}|::(\w+))?(?:\s+as\s+(\w+))?;", re.M)
+RUST_USE = re.compile(
+    r"^\s*(?:pub(?:\([^)]*\))? )?use\s+((?:crate|super|self|serf_\w+)[\w:]*?)(?:::\{([^;]*)\}|::(\w+))?(?:\s+as\s+(\w+))?;", re.M
+)
 
 TRAIT = re.compile(r"(?:pub(?:\([^)]*\))? )?(?:unsafe )?trait\b")
 IMPL_HEAD = re.compile(r"(pub(\(.*?\))? )?(unsafe )?impl\b")
@@ -201,11 +203,17 @@ class Sources:
         base = f"{crate}/proofs/"
         proofs = self.files(crate, "proofs")
         found = [path for path in proofs for name in edit.functions if path.startswith(base + name.replace("::", "/") + "/")]
-        is_in_cycle = any("/+" in path and path.startswith(base + name.rpartition("::")[0].replace("::", "/")) for path in proofs for name in edit.functions)
+        is_in_cycle = any(
+            "/+" in path and path.startswith(base + name.rpartition("::")[0].replace("::", "/"))
+            for path in proofs
+            for name in edit.functions
+        )
         if edit.is_definition or is_in_cycle:
             found += [path for path in proofs if "/+" in path or "/laws/" in path]
         # An attribute of an edited function, or of the crate, may name lemmas. A definition is read by other functions as well.
-        attributes = [text for path in self.files(crate, "src") for text in self.attributes(path, None if edit.is_definition else names_of(edit))]
+        attributes = [
+            text for path in self.files(crate, "src") for text in self.attributes(path, None if edit.is_definition else names_of(edit))
+        ]
         named = [re.findall(r"crate::proofs::([\w:]+)", text) for text in attributes]
         found += [base + name.rpartition("::")[0].replace("::", "/") + ".antt" for names in named for name in names]
         found = [path for path in dict.fromkeys(found) if path in self.texts]
@@ -309,7 +317,9 @@ class Reach:
                 at += 1
                 continue
             end = at
-            while end + 1 < len(lines) and not (lines[end] == "}" or (lines[end].endswith((";", "{}", "}")) and not lines[end].startswith(" "))):
+            while end + 1 < len(lines) and not (
+                lines[end] == "}" or (lines[end].endswith((";", "{}", "}")) and not lines[end].startswith(" "))
+            ):
                 end += 1
             begin = at
             while begin and lines[begin - 1].startswith(("#[", "//")):
@@ -450,7 +460,11 @@ class Reach:
         todo.update(("name", key) for key in self.code if key[0] == crate and key[1] in owners)
         news = " ".join(new for _, _, new in edit.pairs)
         for file in sources.files(crate, "src"):
-            own = [text for name, text in self.once(("functions", file), lambda file=file: list(functions_of(sources.texts[file]))) if name in names]
+            own = [
+                text
+                for name, text in self.once(("functions", file), lambda file=file: list(functions_of(sources.texts[file])))
+                if name in names
+            ]
             if own or self.rust[file][1]:
                 said.append(f"{file} {self.rust[file][1]}")
             for text in map(plain_code, own):
@@ -474,7 +488,11 @@ class Reach:
         if not text:
             return "", set()
         names = set(NAME.findall(text)) | set(WORD.findall(text))
-        used = {name: origin for name, origin in self.origins[file].items() if name in names or any(part in text for part in name.split("◌") if part and "◌" in name)}
+        used = {
+            name: origin
+            for name, origin in self.origins[file].items()
+            if name in names or any(part in text for part in name.split("◌") if part and "◌" in name)
+        }
         places = [f"{name} {self.origin(*used[name])}" for name in sorted(used)]
         return "\n".join([file, *places, text]), self.reached_by(file, text)
 

@@ -19,7 +19,12 @@ FOLDER = os.path.join(TOP, "bindings", "rust", "sys", "src")
 
 # The names of the structs that aren't those of C in capitals.
 NAMES = {"serf_agent": "Handle", "serf_agent_result": "CallResult"}
-NUMBERS = {"size_t": "usize", "bool": "bool", "void": "u8", **{f"{sign}int{bits}_t": f"{'u' if sign else 'i'}{bits}" for sign in ("u", "") for bits in (8, 16, 32, 64)}}
+NUMBERS = {
+    "size_t": "usize",
+    "bool": "bool",
+    "void": "u8",
+    **{f"{sign}int{bits}_t": f"{'u' if sign else 'i'}{bits}" for sign in ("u", "") for bits in (8, 16, 32, 64)},
+}
 # The field of the handle that is a struct itself.
 INNER = re.compile(r"struct \{\s*void \*at;\s*\} place;")
 PLACE = "/// Where an agent is.\n#[repr(C)]\n#[derive(Debug)]\npub struct Place {\n    /// The address, which only the library uses.\n    pub at: *mut u8,\n}\n"
@@ -38,7 +43,10 @@ def doc_comment(text, indent=""):
     words += "" if words.endswith(".") else "."
     # (no line begins with a minus, which would be a list)
     words = words.replace("2^64 - 1", "2^64\0-\0001")
-    return "".join(f"{indent}/// {line}\n".replace("\0", " ") for line in textwrap.wrap(words, WIDTH - 10 - len(indent), break_long_words=False, break_on_hyphens=False))
+    return "".join(
+        f"{indent}/// {line}\n".replace("\0", " ")
+        for line in textwrap.wrap(words, WIDTH - 10 - len(indent), break_long_words=False, break_on_hyphens=False)
+    )
 
 
 def struct_name(name):
@@ -103,7 +111,12 @@ def call_declaration(match, previous_comment):
 def texts_of(header):
     """The text of each file, for the header's."""
     version = re.search(r"((?:/\*(?:(?!\*/).)*\*/\n))#define SERF_AGENT_VERSION (\d+)", header, re.S)
-    constants, structs, calls, previous_comment = [f"{doc_comment(comment_text(version[1]))}pub const SERF_AGENT_VERSION: u32 = {version[2]};\n"], [PLACE], [], ""
+    constants, structs, calls, previous_comment = (
+        [f"{doc_comment(comment_text(version[1]))}pub const SERF_AGENT_VERSION: u32 = {version[2]};\n"],
+        [PLACE],
+        [],
+        "",
+    )
     for match in manual_of_header.PART.finditer(header, manual_of_header.COMMENT.search(header).end()):
         if match["call"]:
             calls.append(call_declaration(match, previous_comment))

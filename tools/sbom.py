@@ -17,7 +17,9 @@ CRATE = re.compile(r"^(\w+)(?: staticlib)?: ?(.*)$", re.M)
 def output(*words, **more):
     """What a command prints, or an empty text if it fails or isn't there."""
     try:
-        return subprocess.run(words, check=True, stdin=subprocess.DEVNULL, stdout=subprocess.PIPE, stderr=subprocess.DEVNULL, text=True, **more).stdout
+        return subprocess.run(
+            words, check=True, stdin=subprocess.DEVNULL, stdout=subprocess.PIPE, stderr=subprocess.DEVNULL, text=True, **more
+        ).stdout
     except (OSError, subprocess.CalledProcessError):
         return ""
 
@@ -28,7 +30,13 @@ def identifier(name):
 
 def package(name, version, licence, **more):
     """A package of the bill. Its version is left out if nobody knows it."""
-    about = {"SPDXID": identifier(name), "name": name, "downloadLocation": "NOASSERTION", "licenseConcluded": licence, "licenseDeclared": licence}
+    about = {
+        "SPDXID": identifier(name),
+        "name": name,
+        "downloadLocation": "NOASSERTION",
+        "licenseConcluded": licence,
+        "licenseDeclared": licence,
+    }
     return {**about, **({"versionInfo": version} if version else {}), "copyrightText": "NOASSERTION", "filesAnalyzed": False, **more}
 
 
@@ -66,7 +74,10 @@ def text_of(top, version, commit, moment, files, publisher):
     ]
     toolchain = package("rattle-toolchain", output("rt", "version").strip(), "NOASSERTION")
     of_library, of_program = (of_toolchain(top, crate) for crate in ("serf_agent_c", "serf_replay_program"))
-    crates = {name: package(f"rattle-crate-{name}", "", "NOASSERTION", comment="a crate of the toolchain") for name in sorted(of_library | of_program)}
+    crates = {
+        name: package(f"rattle-crate-{name}", "", "NOASSERTION", comment="a crate of the toolchain")
+        for name in sorted(of_library | of_program)
+    }
     linked = [package(name, own, licence) for name, (own, licence) in sorted(go_packages(top).items())]
     relations = [("SPDXRef-DOCUMENT", "DESCRIBES", it["SPDXID"]) for it in published]
     relations += [(it["SPDXID"], "BUILD_DEPENDENCY_OF", other["SPDXID"]) for it in (toolchain,) for other in published]

@@ -61,5 +61,12 @@ def write(source, name, text):
 
 def run_tests(source, *words):
     """Compiles a crate without a proof and runs its tests, each in a separate process. Returns the status and the output."""
-    result = subprocess.run([*TRY, "--test", "--seconds", "600", *words], cwd=os.path.dirname(source), stdin=subprocess.DEVNULL, stdout=subprocess.PIPE, stderr=subprocess.STDOUT, timeout=3600)
+    result = subprocess.run(
+        [*TRY, "--test", "--seconds", "600", *words],
+        cwd=os.path.dirname(source),
+        stdin=subprocess.DEVNULL,
+        stdout=subprocess.PIPE,
+        stderr=subprocess.STDOUT,
+        timeout=3600,
+    )
     return result.returncode, result.stdout.decode("utf-8", "replace")

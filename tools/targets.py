@@ -55,7 +55,18 @@ done
 """
 
 # What of these words names a file or a folder, and isn't a flag for everybody: the word itself, or the word and the next one.
-OWN = ("--target=", "--sysroot=", "--no-default-config", "-no-canonical-prefixes", "-fintegrated-cc1", "-fno-crash-diagnostics", "-Werror", "-c", "-S", "-emit-llvm")
+OWN = (
+    "--target=",
+    "--sysroot=",
+    "--no-default-config",
+    "-no-canonical-prefixes",
+    "-fintegrated-cc1",
+    "-fno-crash-diagnostics",
+    "-Werror",
+    "-c",
+    "-S",
+    "-emit-llvm",
+)
 OWN_PAIRS = ("-x", "-o", "-Xclang")
 
 
@@ -109,7 +120,16 @@ def compiled(rt, crate, words, name, folder):
         at = words.index(flag)
         words = [*words[:at], *words[at + 2 :]]
     with tempfile.TemporaryFile("w+", errors="replace") as crate.out:
-        more = ["--crate-checked", name, "--toolchain", wrapped(rt.rtlib.KIT, folder), "--backend", "llvm", "-o", os.path.join(folder, "libserf_agent_c.a")]
+        more = [
+            "--crate-checked",
+            name,
+            "--toolchain",
+            wrapped(rt.rtlib.KIT, folder),
+            "--backend",
+            "llvm",
+            "-o",
+            os.path.join(folder, "libserf_agent_c.a"),
+        ]
         status = crate.call(rt.rtlib.RATTLE, "build", *words, *more)
         crate.out.seek(0)
         if status:

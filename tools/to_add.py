@@ -23,7 +23,9 @@ THINGS = {
 }
 
 # Files that name a thing only to test it, or that are made from the sources.
-LEFT_OUT = re.compile(r"/mutants/|/CALLING\.md$|^CHANGELOG\.md$|^tests/refused/|^examples/.*\.(?:svg|trace|log)$|^conformance/schedules/|^docs/completions/|\.1$|\.3$")
+LEFT_OUT = re.compile(
+    r"/mutants/|/CALLING\.md$|^CHANGELOG\.md$|^tests/refused/|^examples/.*\.(?:svg|trace|log)$|^conformance/schedules/|^docs/completions/|\.1$|\.3$"
+)
 
 
 def files():

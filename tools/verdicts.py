@@ -54,7 +54,9 @@ def found_in(said, sources_of, before):
 
 
 def text_of(toolchain, verdicts):
-    return HEAD + f"# The toolchain: {toolchain}\n" + "".join(f"{name} {sources} {verdict}\n" for name, (sources, verdict) in verdicts.items())
+    return (
+        HEAD + f"# The toolchain: {toolchain}\n" + "".join(f"{name} {sources} {verdict}\n" for name, (sources, verdict) in verdicts.items())
+    )
 
 
 def record(top, said):

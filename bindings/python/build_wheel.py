@@ -30,8 +30,8 @@ TOP = os.path.join(HERE, "..", "..")
 NAME = "serf_agent"
 SHARED_LIBRARIES = [os.path.join(TOP, "lib", "libserf_agent.so"), os.path.join(HERE, "..", "c", "out", "libserf_agent.so")]
 
-# The files of the source package's folder native, and their places in a release's archive and in a clone. The first place that has a file is
-# used.
+# The files of the source package's folder native, and their places in a release's archive and in a clone. The first place that has
+# a file is used.
 STATIC_LIBRARY = "libserf_agent_c.a"
 # The folders of the static library for each processor, in the folder native.
 PROCESSOR_FOLDERS = {"x86_64": (), "aarch64": ("aarch64",)}
@@ -43,7 +43,10 @@ NATIVE_PATHS = {
 }
 # The static library for aarch64, which a clone may not have.
 AARCH64_LIBRARY = f"aarch64/{STATIC_LIBRARY}"
-NATIVE_PATHS[AARCH64_LIBRARY] = [os.path.join(TOP, "lib", AARCH64_LIBRARY), os.path.join(TOP, "crates", "serf_agent_c", "out", AARCH64_LIBRARY)]
+NATIVE_PATHS[AARCH64_LIBRARY] = [
+    os.path.join(TOP, "lib", AARCH64_LIBRARY),
+    os.path.join(TOP, "crates", "serf_agent_c", "out", AARCH64_LIBRARY),
+]
 NATIVE_FOLDER = os.path.join(HERE, "native")
 
 # The first bytes of an ELF file of 64 bits, and the processors for which the library is built, by the machine's number
@@ -69,7 +72,9 @@ def shared_library():
         return link_shared_library()
     path = next((path for path in ([path_in_environment] if path_in_environment else SHARED_LIBRARIES) if os.path.isfile(path)), None)
     if path is None:
-        refuse(f"there is no shared library at {path_in_environment or ' or '.join(map(os.path.normpath, SHARED_LIBRARIES))}: make it with make -C bindings/c, or set SERF_AGENT_LIBRARY to its path")
+        refuse(
+            f"there is no shared library at {path_in_environment or ' or '.join(map(os.path.normpath, SHARED_LIBRARIES))}: make it with make -C bindings/c, or set SERF_AGENT_LIBRARY to its path"
+        )
     data = read(path)
     if not data.startswith(ELF) or data[18:20] not in PROCESSORS:
         refuse(f"{path} is no shared library for Linux on x86-64 or aarch64")
@@ -81,7 +86,9 @@ def link_shared_library():
     platform_names = platform.system(), platform.machine()
     static_library = os.path.join(NATIVE_FOLDER, *PROCESSOR_FOLDERS.get(platform_names[1], ()), STATIC_LIBRARY)
     if platform_names[0] != "Linux" or platform_names[1] not in PROCESSOR_FOLDERS:
-        refuse(f"the library is for Linux on x86-64 or aarch64, and this system is {' on '.join(platform_names)}: install it in a machine or a container of that kind")
+        refuse(
+            f"the library is for Linux on x86-64 or aarch64, and this system is {' on '.join(platform_names)}: install it in a machine or a container of that kind"
+        )
     if not os.path.isfile(static_library):
         refuse(f"this source package has no library for {platform_names[1]}: take the source package of a release")
     compiler = os.environ.get("CC", "cc")
@@ -90,7 +97,16 @@ def link_shared_library():
     sources = [os.path.join(NATIVE_FOLDER, name) for name in NATIVE_PATHS if name.endswith(".c")]
     with tempfile.TemporaryDirectory(prefix="serf_agent-") as folder:
         shared = os.path.join(folder, "libserf_agent.so")
-        command = [compiler, "-std=c11", "-O2", "-fPIC", "-shared", f"-I{NATIVE_FOLDER}", f"-Wl,--version-script,{NATIVE_FOLDER}/exports.map", "-Wl,-z,defs"]
+        command = [
+            compiler,
+            "-std=c11",
+            "-O2",
+            "-fPIC",
+            "-shared",
+            f"-I{NATIVE_FOLDER}",
+            f"-Wl,--version-script,{NATIVE_FOLDER}/exports.map",
+            "-Wl,-z,defs",
+        ]
         command += ["-o", shared, *sources, "-Wl,--whole-archive", static_library, "-Wl,--no-whole-archive"]
         result = subprocess.run(command, stdout=subprocess.PIPE, stderr=subprocess.STDOUT, text=True, errors="replace")
         if result.returncode:
@@ -152,7 +168,9 @@ def wheel_contents():
     contents[f"{NAME}/libserf_agent.so"] = shared
     contents[f"{info_folder}/METADATA"] = package_metadata()
     contents[f"{info_folder}/LICENSE"] = read(os.path.join(HERE, "LICENSE"))
-    contents[f"{info_folder}/WHEEL"] = f"Wheel-Version: 1.0\nGenerator: {NAME}\nRoot-Is-Purelib: false\nTag: {platform_tag(shared)}\n".encode()
+    contents[
+        f"{info_folder}/WHEEL"
+    ] = f"Wheel-Version: 1.0\nGenerator: {NAME}\nRoot-Is-Purelib: false\nTag: {platform_tag(shared)}\n".encode()
     sums = {name: base64.urlsafe_b64encode(hashlib.sha256(data).digest()).decode().rstrip("=") for name, data in contents.items()}
     record = "".join(f"{name},sha256={sums[name]},{len(contents[name])}\n" for name in sorted(contents))
     contents[f"{info_folder}/RECORD"] = f"{record}{info_folder}/RECORD,,\n".encode()
@@ -193,7 +211,9 @@ def build_sdist(sdist_directory, config_settings=None):
     contents = {**package_files(), "PKG-INFO": package_metadata()}
     contents.update((name, read(os.path.join(HERE, name))) for name in ("pyproject.toml", "build_wheel.py", "README.md", "LICENSE"))
     contents.update((f"native/{name}", text) for name, text in ((name, native_file(name)) for name in NATIVE_PATHS) if text is not None)
-    with open(os.path.join(sdist_directory, f"{stem}.tar.gz"), "wb") as file, gzip.GzipFile(fileobj=file, mode="wb", filename="", mtime=0) as zipped:
+    with open(os.path.join(sdist_directory, f"{stem}.tar.gz"), "wb") as file, gzip.GzipFile(
+        fileobj=file, mode="wb", filename="", mtime=0
+    ) as zipped:
         with tarfile.open(fileobj=zipped, mode="w", format=tarfile.PAX_FORMAT) as tar:
             for name in sorted(contents):
                 member = tarfile.TarInfo(f"{stem}/{name}")

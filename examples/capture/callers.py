@@ -46,7 +46,12 @@ def has_news(answer, own_state):
     """Whether a state can change a node that has the other one: by an event, or by a clock."""
     if answer is None:
         return False
-    return own_state is None or not answer.events <= own_state.events or answer.clock > own_state.clock or answer.query_clock > own_state.query_clock
+    return (
+        own_state is None
+        or not answer.events <= own_state.events
+        or answer.clock > own_state.clock
+        or answer.query_clock > own_state.query_clock
+    )
 
 
 class Callers:

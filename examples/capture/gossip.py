@@ -49,5 +49,7 @@ def state_of(content):
     for slot in filter(None, slots):
         for event in list_or_empty(slot.get(b"Events")):
             if isinstance(event, dict):
-                events.add(Event(integer_or_zero(slot.get(b"LTime")), bytes_or_empty(event.get(b"Name")), bytes_or_empty(event.get(b"Payload"))))
+                events.add(
+                    Event(integer_or_zero(slot.get(b"LTime")), bytes_or_empty(event.get(b"Name")), bytes_or_empty(event.get(b"Payload")))
+                )
     return State(frozenset(events), integer_or_zero(fields.get(b"EventLTime")), integer_or_zero(fields.get(b"QueryLTime")), len(slots))

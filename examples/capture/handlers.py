@@ -137,7 +137,9 @@ def handed_out(lines, nodes):
     trace = run_program(["replay", "--stream"], run_program(["write"], "".join(f"{line}\n" for line in lines).encode()))
     for words in (line.split(b" ") for line in trace.splitlines()):
         if words[1] == b"event":
-            yield Delivery(nodes[int(words[2])], logged_event(Event(int(words[3]), bytes_of(words[4]), bytes_of(words[5]))), words[6] == b"1")
+            yield Delivery(
+                nodes[int(words[2])], logged_event(Event(int(words[3]), bytes_of(words[4]), bytes_of(words[5]))), words[6] == b"1"
+            )
 
 
 def count_and_names(counts):
@@ -182,7 +184,9 @@ def contradictions(logs, handed, carried, names):
         if unexpected:
             number, named = count_and_names(unexpected)
             yield f"{quoted(node)}'s log has {number} that this schedule doesn't hand out: {named}. {STARTED.format(quoted(node))}"
-        certain_counts = collections.Counter(one.event for one in node_deliveries if not (one.coalesces and is_coalesced(one.event, logged)))
+        certain_counts = collections.Counter(
+            one.event for one in node_deliveries if not (one.coalesces and is_coalesced(one.event, logged))
+        )
         missing = certain_counts - logged
         earlier = collections.Counter({event: count for event, count in missing.items() if event in before})
         if missing - earlier:

@@ -108,7 +108,11 @@ def connection_of(connections, time, sender, receiver, flags):
     """The connection to which a segment belongs. Two ends have a new one after each SYN, unless that is a SYN sent again."""
     connections_of_ends = connections.setdefault(frozenset((sender, receiver)), [])
     calls, answers = flags & SYN and not flags & ACK, flags & SYN and flags & ACK
-    if not connections_of_ends or (calls and connections_of_ends[-1].is_used()) or (answers and connections_of_ends[-1].sides[sender].parts):
+    if (
+        not connections_of_ends
+        or (calls and connections_of_ends[-1].is_used())
+        or (answers and connections_of_ends[-1].sides[sender].parts)
+    ):
         connections_of_ends.append(Connection((sender, receiver), time))
     if calls or answers:
         connections_of_ends[-1].set_caller(*((sender, receiver) if calls else (receiver, sender)))

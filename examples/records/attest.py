@@ -61,7 +61,9 @@ class Node:
             event = tuple(words[:3])
             before = self.events.setdefault(event, call)
             if before is not call:
-                raise Refused(f"{call.path}:{call.line}: {describe_event(event)} is handed out again; line {before.line} of {before.path} has it")
+                raise Refused(
+                    f"{call.path}:{call.line}: {describe_event(event)} is handed out again; line {before.line} of {before.path} has it"
+                )
         # (a packet that is sent on is somebody else's)
         self.made.update(packet_key(packet) for packet in call.sent() if packet not in call.words)
         if call.kind in ("deliver", "merge") and not call.is_of_members():
@@ -103,7 +105,9 @@ def check_packets(nodes, is_whole):
             if key not in made_keys:
                 outside_packets += 1
                 if is_whole:
-                    raise Refused(f"{call.path}:{call.line}: {node.name} received a packet that no recorded node made: {call.words[1][:200]}")
+                    raise Refused(
+                        f"{call.path}:{call.line}: {node.name} received a packet that no recorded node made: {call.words[1][:200]}"
+                    )
     return outside_packets
 
 
@@ -117,12 +121,21 @@ def log_word(data, is_payload=False):
 
 
 def check_handlers(nodes, logs, program):
-    """Refuses a line of a handlers' log that repeats another one, or for which nothing was handed out. It returns how many lines there are of
-    recorded nodes, and of others."""
-    handed_out = {log_word(node.name.encode().hex()): Counter((time, log_word(name), log_word(payload, True)) for time, name, payload in node.events.keys() | node.kept) for node in nodes}
+    """Refuses a line of a handlers' log that repeats another one, or for which nothing was handed out. It returns how many lines there
+    are of recorded nodes, and of others."""
+    handed_out = {
+        log_word(node.name.encode().hex()): Counter(
+            (time, log_word(name), log_word(payload, True)) for time, name, payload in node.events.keys() | node.kept
+        )
+        for node in nodes
+    }
     seen, runs, others = {}, 0, 0
     for line in program.log_lines(logs):
-        node, event = bytes.fromhex(line["node_hex"]), (str(line["time"]), bytes.fromhex(line["name_hex"]), bytes.fromhex(line["payload_hex"]))
+        node, event = bytes.fromhex(line["node_hex"]), (
+            str(line["time"]),
+            bytes.fromhex(line["name_hex"]),
+            bytes.fromhex(line["payload_hex"]),
+        )
         if node not in handed_out:
             others += 1
             continue
@@ -130,7 +143,9 @@ def check_handlers(nodes, logs, program):
         log_place = f"{line['log']}:{line['line']}"
         described_event = f"the event {event[0]} {line['name']!r} {line['payload']!r}"
         if handed_out[node][event] == 0 and (node, event) in seen:
-            raise Refused(f"{log_place}: a handler of {line['node']} ran again for {described_event}; {seen[node, event]} has the first run")
+            raise Refused(
+                f"{log_place}: a handler of {line['node']} ran again for {described_event}; {seen[node, event]} has the first run"
+            )
         if handed_out[node][event] == 0:
             raise Refused(f"{log_place}: a handler of {line['node']} ran for {described_event}, which its agent didn't hand out")
         handed_out[node][event] -= 1
@@ -155,9 +170,13 @@ def attest_records(options, program):
             with open(files[node.name], "rb") as file:
                 node.check_text(node.lives[-1], file.read(), f"{files[node.name]} was read")
     outside = check_packets(nodes, options.whole)
-    sentences = [f"attested: {len(nodes)} nodes, {sum(len(node.lives) for node in nodes)} lives, {sum(len(life.calls) for node in nodes for life in node.lives)} calls"]
+    sentences = [
+        f"attested: {len(nodes)} nodes, {sum(len(node.lives) for node in nodes)} lives, {sum(len(life.calls) for node in nodes for life in node.lives)} calls"
+    ]
     for node in nodes:
-        sentences.append(f"  {node.name}: {len(node.lives)} lives, {sum(len(life.calls) for life in node.lives)} calls, {len(node.events)} events handed out")
+        sentences.append(
+            f"  {node.name}: {len(node.lives)} lives, {sum(len(life.calls) for life in node.lives)} calls, {len(node.events)} events handed out"
+        )
     if outside:
         sentences.append(f"  {outside} packets were made by none of these nodes")
     if options.handlers:

@@ -36,8 +36,8 @@ class ProgramError(Exception):
 
 
 class Life:
-    """A life in a record: the text on which its agent was opened, and its calls. `flushed` has the texts with which the file may begin after
-    it, once the life was compared: the text that the reference flushed, and the one that a compaction under way may have left."""
+    """A life in a record: the text on which its agent was opened, and its calls. `flushed` has the texts with which the file may begin
+    after it, once the life was compared: the text that the reference flushed, and the one that a compaction under way may have left."""
 
     def __init__(self, opening):
         self.opening, self.calls = opening, []
@@ -75,7 +75,9 @@ class Life:
         """Refuses a call with another reply than the reference's. Then it asks the reference for the text that it flushed."""
         text, calls = self.schedule()
         if len(text) > MAX_SCHEDULE:
-            raise Refused(f"{self.path}:{self.line}: this life has {len(text)} bytes of calls, and the program reads at most {MAX_SCHEDULE}")
+            raise Refused(
+                f"{self.path}:{self.line}: this life has {len(text)} bytes of calls, and the program reads at most {MAX_SCHEDULE}"
+            )
         difference = program.first_disagreement(text, self.replies())
         if difference is not None:
             call = calls[min(max(difference["action"], 1), len(calls)) - 1]
@@ -143,7 +145,9 @@ class Program:
 
     def first_disagreement(self, schedule, replies):
         """Compares replies with those of the reference, and returns the first that differs as an object of conform's report, or None."""
-        with tempfile.NamedTemporaryFile(suffix=".schedule") as file, tempfile.NamedTemporaryFile() as report, tempfile.TemporaryFile() as errors:
+        with tempfile.NamedTemporaryFile(
+            suffix=".schedule"
+        ) as file, tempfile.NamedTemporaryFile() as report, tempfile.TemporaryFile() as errors:
             file.write(schedule.encode())
             file.flush()
             command = [self.path, "conform", file.name, "--report", report.name]

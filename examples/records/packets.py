@@ -84,7 +84,8 @@ def without_address(query):
 
 
 def without_tag_filters(packet):
-    """A query's fields without its tag filters; the bytes of any other packet. A node that passes tag filters records a query without them."""
+    """A query's fields without its tag filters; the bytes of any other packet. A node that passes tag filters records a query without
+    them."""
     if packet[:1] != bytes([QUERY]):
         return packet
     try:

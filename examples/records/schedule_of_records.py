@@ -113,8 +113,8 @@ class Schedule:
             node.update_from_reply(call)
 
     def begin_life(self, node, call):
-        """Begins a life, on the lines of the text on which the agent was opened. The first one makes the agent. If the clocks are below those
-        before, the file was lost: it is a new agent."""
+        """Begins a life, on the lines of the text on which the agent was opened. The first one makes the agent. If the clocks are below
+        those before, the file was lost: it is a new agent."""
         clocks = [int(word) for word in call.reply[0][1:]]
         if not node.agents or any(now < before for now, before in zip(clocks[1:], node.clocks[1:])):
             suffix = f" ({len(node.agents) + 1})" if node.agents else ""
@@ -122,7 +122,9 @@ class Schedule:
             _, _, events, queries, limit, responders, mode, per_time, *limits, _ = call.words
             packets = f" querylimit={limits[0]} responselimit={limits[1]}" if limits else ""
             mode = mode.replace("+events", " keep-events")
-            self.agent_lines.append(f"agent {name} events={events} queries={queries} limit={limit} responders={responders} pertime={per_time} {mode}{packets}")
+            self.agent_lines.append(
+                f"agent {name} events={events} queries={queries} limit={limit} responders={responders} pertime={per_time} {mode}{packets}"
+            )
             node.agents.append(name)
             is_new = True
         else:

@@ -1,5 +1,5 @@
-"""Which lines of a snapshot's text say something of clocks, minimums, events and queries, and whether a text begins with another one but for
-lines that say nothing of these. These are the definitions of crates/serf_snapshot/specs/OtherLines.antt once more, in Python.
+"""Which lines of a snapshot's text say something of clocks, minimums, events and queries, and whether a text begins with another one
+but for lines that say nothing of these. These are the definitions of crates/serf_snapshot/specs/OtherLines.antt once more, in Python.
 
 docs/SPEC.md has the lines ("Snapshots"), and docs/HOST.md says which other lines a host may add ("A host's own lines").
 """
@@ -70,8 +70,8 @@ def own_lines(text):
 
 
 def begins_with(text, confirmed):
-    """Why a text doesn't begin with these bytes up to other lines, or None (`BeginsWith` in crates/serf_agent_c/specs/Hosts.antt: the text is
-    a front and a tail, and the front and the bytes differ only in other lines)."""
+    """Why a text doesn't begin with these bytes up to other lines, or None (`BeginsWith` in crates/serf_agent_c/specs/Hosts.antt: the
+    text is a front and a tail, and the front and the bytes differ only in other lines)."""
     own, torn = own_lines(confirmed)
     found, at = 0, 0
     while found < len(own) or not text.startswith(torn, at):

@@ -125,7 +125,9 @@ class Picture:
         """The picture as the text of an SVG file."""
         width, height = GUTTER + LANE * max(1, len(self.nodes)), round(self.height)
         title = "What the handlers ran, from their logs"
-        svg_lines = [f"<svg xmlns='http://www.w3.org/2000/svg' role='img' width='{width}' height='{height}' viewBox='0 0 {width} {height}'>"]
+        svg_lines = [
+            f"<svg xmlns='http://www.w3.org/2000/svg' role='img' width='{width}' height='{height}' viewBox='0 0 {width} {height}'>"
+        ]
         svg_lines += [f"<title>{title}</title>", f"<style>{STYLE}</style>", "<rect class='p' width='100%' height='100%'/>"]
         svg_lines.append(f"<text class='n' x='10' y='18'>{title}</text>")
         for lane, name in self.nodes.values():

@@ -178,15 +178,29 @@ class Side:
         self.me, self.peer = agents
         self.far, self.farther = others
         self.key = key
-        self.words = {"me": self.me.name, "peer": self.peer.name, "far": self.far.name, "farther": self.farther.name, "nowhere": "127.0.7.99"}
+        self.words = {
+            "me": self.me.name,
+            "peer": self.peer.name,
+            "far": self.far.name,
+            "farther": self.farther.name,
+            "nowhere": "127.0.7.99",
+        }
         self.words |= {"far_address": self.far.addr, "farther_address": self.farther.addr, "KEY": key or NEW, "NEW": NEW, "OTHER": OTHER}
 
     def asked(self, call):
         """The status of a call at this side, and its lines in order, with neutral words."""
-        words = [re.sub(r"\{(\w+)\}", lambda found: "x" * int(found[1]) if found[1].isdigit() else self.words[found[1]], word) for word in call.split()]
+        words = [
+            re.sub(r"\{(\w+)\}", lambda found: "x" * int(found[1]) if found[1].isdigit() else self.words[found[1]], word)
+            for word in call.split()
+        ]
         status, text = self.me.serf(*words)
         for name, agent in (("ME", self.me), ("PEER", self.peer), ("FAR", self.far), ("FARTHER", self.farther)):
-            text = re.sub(rf"\b{agent.name}\b", name, text).replace(agent.rpc, f"{name}'s RPC").replace(f"{agent.addr}:", f"{name}'s:").replace(agent.addr, f"{name}'s")
+            text = (
+                re.sub(rf"\b{agent.name}\b", name, text)
+                .replace(agent.rpc, f"{name}'s RPC")
+                .replace(f"{agent.addr}:", f"{name}'s:")
+                .replace(agent.addr, f"{name}'s")
+            )
         text = re.sub(r"\d+(\.\d+)? ?(µs|ms|sec|s)\b", "TIME", text)
         text = re.sub(r"\d{4}/\d\d/\d\d \d\d:\d\d:\d\d", "MOMENT", text)
         if call == "keygen":
@@ -200,7 +214,10 @@ class Run:
 
     def __init__(self, folder, program, key):
         stock = ["serf", "agent"]
-        self.agents = [Agent(folder, how, name, number) for number, (name, how) in enumerate((("stockone", stock), ("stocktwo", stock), ("oursone", program), ("ourstwo", program)), 1)]
+        self.agents = [
+            Agent(folder, how, name, number)
+            for number, (name, how) in enumerate((("stockone", stock), ("stocktwo", stock), ("oursone", program), ("ourstwo", program)), 1)
+        ]
         for agent, role in zip(self.agents, ("web", "db", "web", "db")):
             agent.words = ["-tag", f"role={role}", "-snapshot", agent.snapshot, *(["-encrypt", key] if key else [])]
             for line in ("query:load=echo load", "query:cat=cat", "query:bad=echo no; exit 3"):
@@ -261,7 +278,10 @@ def main():
             os.mkdir(own)
             run = Run(own, program, key)
             run.run()
-            print(f"{'encrypted' if key else 'plain'}: of {len(CALLS)} calls {run.same} print the same, {len(run.known)} differ as is known, {len(run.other)} otherwise", flush=True)
+            print(
+                f"{'encrypted' if key else 'plain'}: of {len(CALLS)} calls {run.same} print the same, {len(run.known)} differ as is known, {len(run.other)} otherwise",
+                flush=True,
+            )
             other += run.other
     print("FAILED" if other else "passed")
     return 1 if other else 0

@@ -1,8 +1,9 @@
 """By hand, since it needs Go, Serf and its sources: kills, losses and cuts in a cluster of three kinds of agents.
 
     tests/by_hand/agent_cluster.py [--minutes M] [--kills N] [--events N] [--stock N] [--ours N] [--serf N] [--lose SHARE]
-                                   [--repeat SHARE] [--calm] [--cut-every SECONDS] [--keep-events N] [--retry-join] [--rest SECONDS] [--seed S]
-                                   [--net ADDRESS] [--library FOLDER] [--agent PROGRAM] [--judge PROGRAM] [--keep]
+                                   [--repeat SHARE] [--calm] [--cut-every SECONDS] [--keep-events N] [--retry-join]
+                                   [--rest SECONDS] [--seed S] [--net ADDRESS] [--library FOLDER] [--agent PROGRAM]
+                                   [--judge PROGRAM] [--keep]
 
 There are stock agents (3), ours (3), and Serf's own program over our package `serf` (2). Some of ours keep their events (2).
 Events and queries are fired at random nodes in bursts, and a random node is killed by SIGKILL and started again on its snapshot,
@@ -95,7 +96,11 @@ def cluster(folder, programs, asked):
         agents.append(agent)
     for agent in agents:
         if agent.is_proved and asked.retry_join:
-            agent.words += ["-retry-interval", "1s", *(word for other in agents if other is not agent for word in ("-retry-join", other.addr))]
+            agent.words += [
+                "-retry-interval",
+                "1s",
+                *(word for other in agents if other is not agent for word in ("-retry-join", other.addr)),
+            ]
     return agents
 
 
@@ -220,7 +225,9 @@ def why(agent, payloads):
         if raw.hex() in handed:
             causes["killed between its line and its handler"] += 1
         elif (b"\xa7Payload" + bytes([0xA0 | len(raw)]) + raw).hex() in text:
-            causes["it arrived, and was too old or below the minimum time: a later one was first, or the node was killed after the line"] += 1
+            causes[
+                "it arrived, and was too old or below the minimum time: a later one was first, or the node was killed after the line"
+            ] += 1
         else:
             causes["it never arrived: the node that fired it was killed before it was sent, or nobody kept it"] += 1
     return causes
@@ -228,7 +235,9 @@ def why(agent, payloads):
 
 def lonely(agents, torment):
     """The events that only their firer ever had, as far as handlers and files show."""
-    had = {agent.name: {line.split()[-1] for line in handler_runs(agent) if line.startswith("event ")} | noted_by(agent) for agent in agents}
+    had = {
+        agent.name: {line.split()[-1] for line in handler_runs(agent) if line.startswith("event ")} | noted_by(agent) for agent in agents
+    }
     return {text for text, firer in torment.taken.items() if not any(text in had[name] for name in had if name != firer)}
 
 
@@ -252,7 +261,9 @@ def print_results(agents, torment):
         pairs = len(torment.taken) * len(of_kind)
         if pairs:
             other = pairs - once - apart
-            print(f"{kind}: {torment.kills[kind]} kills, {once} of {pairs} pairs of an event and a node ran, {queries} of {torment.asked_of * len(of_kind)} of a query and a node, {repeats[kind]} repeats")
+            print(
+                f"{kind}: {torment.kills[kind]} kills, {once} of {pairs} pairs of an event and a node ran, {queries} of {torment.asked_of * len(of_kind)} of a query and a node, {repeats[kind]} repeats"
+            )
             print(f"{kind}, never ran: {apart} that only their firer had, and {other} others, {1000 * other / pairs:.1f} in 1,000")
         for cause, count in causes.most_common():
             print(f"{kind}, of these others: {count}: {cause}")
@@ -263,7 +274,12 @@ def programs_of(folder, asked):
     """The three programs."""
     library = asked.library or os.path.dirname(c_library.LIBRARY)
     agent = asked.agent or kit.build(folder, asked.library, ["-tags", "faults"])
-    return {STOCK: ["serf", "agent"], OURS: agent, KEEPS: agent, SERF: [kit.build_serf(folder, library, ["-tags", "faults"]), "agent"] if asked.serf else None}
+    return {
+        STOCK: ["serf", "agent"],
+        OURS: agent,
+        KEEPS: agent,
+        SERF: [kit.build_serf(folder, library, ["-tags", "faults"]), "agent"] if asked.serf else None,
+    }
 
 
 def main():
@@ -286,7 +302,9 @@ def main():
     finally:
         for agent in agents:
             agent.end()
-    print(f"{torment.fired} events, {len(torment.taken)} of them accepted, {torment.asked_of} queries, {torment.cuts} cuts, all nodes {'see' if whole else 'do not see'} one another at the end")
+    print(
+        f"{torment.fired} events, {len(torment.taken)} of them accepted, {torment.asked_of} queries, {torment.cuts} cuts, all nodes {'see' if whole else 'do not see'} one another at the end"
+    )
     repeats = print_results(agents, torment)
     status, text = run_judge(agents, folder, asked.judge)
     print(text, end="")

@@ -61,7 +61,19 @@ class Agent:
 
     def launch(self, *more):
         """Starts it, and doesn't wait until it answers."""
-        words = [*self.program, "-node", self.name, "-bind", f"{self.addr}:7946", "-rpc-addr", self.rpc, "-log-level", "debug", *self.words, *more]
+        words = [
+            *self.program,
+            "-node",
+            self.name,
+            "-bind",
+            f"{self.addr}:7946",
+            "-rpc-addr",
+            self.rpc,
+            "-log-level",
+            "debug",
+            *self.words,
+            *more,
+        ]
         with open(self.log, "a", encoding="utf-8") as log:
             self.process = subprocess.Popen(words, stdin=subprocess.DEVNULL, stdout=log, stderr=log, start_new_session=True, env=self.env)
 
@@ -112,7 +124,9 @@ class Agent:
 
 def run_serf(words, wait=30):
     try:
-        result = subprocess.run(words, stdin=subprocess.DEVNULL, stdout=subprocess.PIPE, stderr=subprocess.STDOUT, text=True, errors="replace", timeout=wait)
+        result = subprocess.run(
+            words, stdin=subprocess.DEVNULL, stdout=subprocess.PIPE, stderr=subprocess.STDOUT, text=True, errors="replace", timeout=wait
+        )
     except subprocess.TimeoutExpired as late:
         return 124, (late.stdout or b"").decode("utf-8", "replace") if isinstance(late.stdout, bytes) else late.stdout or ""
     return result.returncode, result.stdout
@@ -131,5 +145,9 @@ def until(holds, wait=15):
 def missing_command(commands=("go", "serf")):
     """What is missing of what these tests need, or None."""
     missing = [name for name in commands if shutil.which(name) is None]
-    missing += [f"{name}'s sources" for name in ("memberlist", "serf") if not os.path.isdir(os.path.join(GOCODE, "src", "github.com", "hashicorp", name))]
+    missing += [
+        f"{name}'s sources"
+        for name in ("memberlist", "serf")
+        if not os.path.isdir(os.path.join(GOCODE, "src", "github.com", "hashicorp", name))
+    ]
     return ", ".join(missing) or None

@@ -93,7 +93,10 @@ class Run:
         for who, whom in ((a, x), (a, y), (x, a), (x, b), (y, x), (b, y)):
             self.sees(who, whom, "alive")
         self.says("stock shows our tags", a, "members", has=[r"x +127\.0\.7\.3:7946 +alive +.*role=db"])
-        self.says("tags of a file and of a flag are merged", x, "members", has=[r"y .*alive +.*dc=south,role=cache|y .*alive +.*role=cache,dc=south"])
+        self.says(
+            "tags of a file and of a flag are merged", x, "members",
+            has=[r"y .*alive +.*dc=south,role=cache|y .*alive +.*role=cache,dc=south"],
+        )
         self.says("members -detailed", x, "members", "-detailed", has=[r"a +.*Protocol Version: 5 +Available Protocol Range: \[2, 5\]"])
         text = self.says("members -format json", x, "members", "-format", "json", has=["members"])
         names = sorted(one["name"] for one in json.loads(text)["members"])
@@ -120,13 +123,18 @@ class Run:
         for _ in range(5):
             x.serf("event", "burst", f"n{_}")
         for who in (a, x):
-            self.check(f"{who.name} coalesced a burst", until(lambda: who.ran("burst") and who.ran("burst")[-1] == "n4", 10) and len(who.ran("burst")) < 5)
+            self.check(
+                f"{who.name} coalesced a burst",
+                until(lambda: who.ran("burst") and who.ran("burst")[-1] == "n4", 10) and len(who.ran("burst")) < 5,
+            )
         for number in range(6):
             (a, x)[number % 2].serf("event", "-coalesce=false", "row", f"n{number}")
             time.sleep(0.5)
         for who in (x, y):
             self.check(f"{who.name} ran a row in order", until(lambda: who.ran("row") == [f"n{number}" for number in range(6)], 10))
-        self.says("an event that is too long is refused", x, "event", "deploy", "x" * 600, status=1, has=["exceeds configured limit of 512 bytes"])
+        self.says(
+            "an event that is too long is refused", x, "event", "deploy", "x" * 600, status=1, has=["exceeds configured limit of 512 bytes"]
+        )
         self.says("an event without a payload", x, "event", "-coalesce=false", "empty", has=["dispatched"])
         self.check("stock received it", until(lambda: a.ran("empty") == [""], 10))
 
@@ -136,23 +144,59 @@ class Run:
         answers = [f"Response from '{name}': load of {name}" for name in "abxy"]
         self.says("a query of stock: all ack and answer", a, "query", "-timeout", "2s", "load", has=acks + answers, tries=4)
         self.says("a query of ours: all ack and answer", x, "query", "-timeout", "2s", "load", has=acks + answers, tries=4)
-        self.says("-node x at stock", a, "query", "-timeout", "1s", "-node", "x", "load", has=["Response from 'x'", "Total Acks: 1"], tries=3)
-        self.says("-node a at ours", x, "query", "-timeout", "1s", "-node", "a", "load", has=["Response from 'a'", "Total Acks: 1"], tries=3)
-        self.says("-tag at stock", a, "query", "-timeout", "1s", "-tag", "role=d", "load", has=["Response from 'x'", "Total Acks: 1"], tries=3)
-        self.says("-tag at ours, of others", x, "query", "-timeout", "1s", "-tag", "role=^web$", "load", has=["'a'", "'b'", "Total Responses: 2"], tries=3)
-        self.says("-tag at ours, of itself", x, "query", "-timeout", "1s", "-tag", "role=db", "load", has=["'x'", "Total Responses: 1"], tries=3)
-        self.says("two -tag and a -node", x, "query", "-timeout", "1s", "-tag", "dc=south", "-tag", "role=cache", "-node", "y", "-node", "a", "load",
-                  has=["'y'", "Total Responses: 1"], tries=3)
-        self.says("-tag that nobody has", x, "query", "-timeout", "1s", "-tag", "role=none", "load", has=["Total Acks: 0", "Total Responses: 0"])
-        self.says("-no-ack", x, "query", "-timeout", "1s", "-no-ack", "-node", "a", "load", has=["Response from 'a'"], lacks=["Ack"], tries=3)
-        self.says("-relay-factor at stock", a, "query", "-timeout", "2s", "-relay-factor", "2", "load", has=acks + answers + ["Total Acks: 4", "Total Responses: 4"], tries=4)
-        self.says("-relay-factor at ours", x, "query", "-timeout", "2s", "-relay-factor", "2", "load", has=acks + answers + ["Total Acks: 4"], tries=4)
-        self.says("a payload is sent there and back", a, "query", "-timeout", "1s", "-node", "x", "cat", "pay load", has=["Response from 'x': pay load"], tries=3)
-        self.says("a handler that fails sends no answer", a, "query", "-timeout", "1s", "-node", "x", "bad", has=["Ack from 'x'", "Total Responses: 0"], tries=3)
-        self.says("an answer that is too long isn't sent", a, "query", "-timeout", "1s", "-node", "x", "long", has=["Ack from 'x'", "Total Responses: 0"], tries=3)
-        text = self.says("query -format json", x, "query", "-timeout", "1s", "-format", "json", "-node", "a", "load", has=["Responses"], tries=3)
+        self.says(
+            "-node x at stock", a, "query", "-timeout", "1s", "-node", "x", "load", has=["Response from 'x'", "Total Acks: 1"], tries=3
+        )
+        self.says(
+            "-node a at ours", x, "query", "-timeout", "1s", "-node", "a", "load", has=["Response from 'a'", "Total Acks: 1"], tries=3
+        )
+        self.says(
+            "-tag at stock", a, "query", "-timeout", "1s", "-tag", "role=d", "load", has=["Response from 'x'", "Total Acks: 1"], tries=3
+        )
+        self.says(
+            "-tag at ours, of others", x, "query", "-timeout", "1s", "-tag", "role=^web$", "load", has=["'a'", "'b'", "Total Responses: 2"],
+            tries=3,
+        )
+        self.says(
+            "-tag at ours, of itself", x, "query", "-timeout", "1s", "-tag", "role=db", "load", has=["'x'", "Total Responses: 1"], tries=3
+        )
+        self.says(
+            "two -tag and a -node", x, "query", "-timeout", "1s", "-tag", "dc=south", "-tag", "role=cache", "-node", "y", "-node", "a",
+            "load", has=["'y'", "Total Responses: 1"], tries=3,
+        )
+        self.says(
+            "-tag that nobody has", x, "query", "-timeout", "1s", "-tag", "role=none", "load", has=["Total Acks: 0", "Total Responses: 0"]
+        )
+        self.says(
+            "-no-ack", x, "query", "-timeout", "1s", "-no-ack", "-node", "a", "load", has=["Response from 'a'"], lacks=["Ack"], tries=3
+        )
+        self.says(
+            "-relay-factor at stock", a, "query", "-timeout", "2s", "-relay-factor", "2", "load",
+            has=acks + answers + ["Total Acks: 4", "Total Responses: 4"], tries=4,
+        )
+        self.says(
+            "-relay-factor at ours", x, "query", "-timeout", "2s", "-relay-factor", "2", "load", has=acks + answers + ["Total Acks: 4"],
+            tries=4,
+        )
+        self.says(
+            "a payload is sent there and back", a, "query", "-timeout", "1s", "-node", "x", "cat", "pay load",
+            has=["Response from 'x': pay load"], tries=3,
+        )
+        self.says(
+            "a handler that fails sends no answer", a, "query", "-timeout", "1s", "-node", "x", "bad",
+            has=["Ack from 'x'", "Total Responses: 0"], tries=3,
+        )
+        self.says(
+            "an answer that is too long isn't sent", a, "query", "-timeout", "1s", "-node", "x", "long",
+            has=["Ack from 'x'", "Total Responses: 0"], tries=3,
+        )
+        text = self.says(
+            "query -format json", x, "query", "-timeout", "1s", "-format", "json", "-node", "a", "load", has=["Responses"], tries=3
+        )
         self.check("json has the answer", '"a"' in text and "load of a" in text)
-        self.says("a query that is too long is refused", x, "query", "load", "x" * 1100, status=1, has=["query exceeds limit of 1024 bytes"])
+        self.says(
+            "a query that is too long is refused", x, "query", "load", "x" * 1100, status=1, has=["query exceeds limit of 1024 bytes"]
+        )
         self.says("the agents' own names are refused", x, "query", "_serf_list-keys", status=1, has=["can't begin with _serf_"])
         self.check("their queries never reach a handler", not any("_serf_" in line for line in x.lines()))
 
@@ -170,7 +214,9 @@ class Run:
     def watching(self):
         x, y = self.x, self.y
         self.says("info", x, "info", has=["name = x", "members = 4", "failed = 0", r"query:load =", "role = db"])
-        monitor = subprocess.Popen(["serf", "monitor", f"-rpc-addr={x.rpc}", "-log-level=debug"], stdout=subprocess.PIPE, stderr=subprocess.STDOUT, text=True)
+        monitor = subprocess.Popen(
+            ["serf", "monitor", f"-rpc-addr={x.rpc}", "-log-level=debug"], stdout=subprocess.PIPE, stderr=subprocess.STDOUT, text=True
+        )
         time.sleep(1)
         x.serf("event", "-coalesce=false", "watched", "v1")
         time.sleep(1.5)
@@ -275,7 +321,10 @@ class Run:
         time.sleep(3)
         for payload in x.ran("crash"):
             repeats[payload] = repeats.get(payload, 0) + 1
-        self.check("ten events over five kills: each ran once at ours", sorted(repeats) == sorted(f"{n}-{m}" for n in range(5) for m in (1, 2)) and set(repeats.values()) == {1})
+        self.check(
+            "ten events over five kills: each ran once at ours",
+            sorted(repeats) == sorted(f"{n}-{m}" for n in range(5) for m in (1, 2)) and set(repeats.values()) == {1},
+        )
         before = x.ran("from-stock")
         self.check("no earlier event ran again", before == ["v 1"])
 
@@ -345,7 +394,9 @@ class Run:
         self.says("keys -list at stock", a, "keys", "-list", has=[listing], tries=3)
         self.says("keys -install at ours", x, "keys", "-install", new, has=["Successfully installed key"], tries=3)
         self.says("keys -use at stock", a, "keys", "-use", new, has=["Successfully changed primary key"], tries=3)
-        self.says("removing the primary key fails", x, "keys", "-remove", new, status=1, has=["Removing the primary key is not allowed"], tries=2)
+        self.says(
+            "removing the primary key fails", x, "keys", "-remove", new, status=1, has=["Removing the primary key is not allowed"], tries=2
+        )
         self.says("keys -remove at ours", x, "keys", "-remove", self.key, has=["Successfully removed key"], tries=3)
         self.says("a key that is none is refused", x, "keys", "-install", "x", status=1, has=["illegal base64"])
         self.says("only the new one is there", x, "keys", "-list", has=[re.escape(new)], lacks=[re.escape(self.key)], tries=3)
@@ -357,14 +408,17 @@ class Run:
         program = self.x.program
         at = ["-bind", "127.0.7.9:7946", "-rpc-addr", "127.0.7.9:7373"]
         for what, words, says in (
-            ("a flag that nobody knows", ["-foo"], "-foo"), ("-discover", ["-discover", "x"], "-join"), ("a name of 129 bytes", [*at, "-node", "x" * 129], "at most 128"),
+            ("a flag that nobody knows", ["-foo"], "-foo"),
+            ("-discover", ["-discover", "x"], "-join"),
+            ("a name of 129 bytes", [*at, "-node", "x" * 129], "at most 128"),
             ("a file that another agent has", [*at, "-snapshot", self.x.snapshot], "another agent has the file"),
             ("a folder as a file", [*at, "-snapshot", self.folder], "is not a regular file"),
             ("a folder that isn't there", [*at, "-snapshot", "/nowhere/x"], "folder of the file doesn't exist"),
             ("a full disk", [*at, "-tags-file", "/dev/full"], "-tags-file"),
             ("an address that is taken", ["-bind", f"{self.a.addr}:7946", "-rpc-addr", "127.0.7.9:7373"], "address already in use"),
             ("an RPC address that is taken", ["-bind", "127.0.7.9:7946", "-rpc-addr", self.a.rpc], "address already in use"),
-            ("a join of nobody", [*at, "-join", "127.0.7.99"], "-join"), ("a bad handler", [*at, "-event-handler", "foo=bar"], "is not an event"),
+            ("a join of nobody", [*at, "-join", "127.0.7.99"], "-join"),
+            ("a bad handler", [*at, "-event-handler", "foo=bar"], "is not an event"),
         ):
             status, text = kit.run_serf([*program, *words])
             good = status == 1 and says in text.splitlines()[-1] if text else False
@@ -377,7 +431,10 @@ class Run:
         self.b.start("-join", self.a.addr)
         self.x.start("-join", self.a.addr)
         self.y.start()
-        parts = (self.members, self.events, self.queries, self.tags, self.watching, self.refused, self.names, self.replaying, self.coming_and_going, self.crashes, self.signals, self.taking_over, self.keys)
+        parts = (
+            self.members, self.events, self.queries, self.tags, self.watching, self.refused, self.names, self.replaying,
+            self.coming_and_going, self.crashes, self.signals, self.taking_over, self.keys,
+        )
         try:
             for part in parts:
                 print(f"-- {part.__name__}", flush=True)

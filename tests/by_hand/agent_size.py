@@ -65,17 +65,36 @@ class Crowd:
         tags = b"\xff" + of_map([(text("role"), text("web")), (text("dc"), text("north"))])
         names = [f"member{which}" for which in range(1, self.count + 1)]
         nodes = b"".join(
-            of_map([
-                (text("Name"), text(name)), (text("Addr"), raw(address(which))), (text("Port"), b"\xcd" + struct.pack(">H", PORT)),
-                (text("Meta"), raw(tags)), (text("Incarnation"), number(1)), (text("State"), number(0)), (text("Vsn"), raw(bytes([1, 5, 2, 2, 5, 4]))),
-            ])
+            of_map(
+                [
+                    (text("Name"), text(name)),
+                    (text("Addr"), raw(address(which))),
+                    (text("Port"), b"\xcd" + struct.pack(">H", PORT)),
+                    (text("Meta"), raw(tags)),
+                    (text("Incarnation"), number(1)),
+                    (text("State"), number(0)),
+                    (text("Vsn"), raw(bytes([1, 5, 2, 2, 5, 4]))),
+                ]
+            )
             for which, name in enumerate(names, 1)
         )
-        own = b"\x02" + of_map([
-            (text("LTime"), number(5)), (text("StatusLTimes"), of_map([(text(name), number(2)) for name in names])), (text("LeftMembers"), b"\xc0"),
-            (text("EventLTime"), number(1)), (text("Events"), b"\xc0"), (text("QueryLTime"), number(1)),
-        ])
-        header = of_map([(text("Nodes"), b"\xcd" + struct.pack(">H", self.count)), (text("UserStateLen"), b"\xce" + struct.pack(">I", len(own))), (text("Join"), b"\xc2")])
+        own = b"\x02" + of_map(
+            [
+                (text("LTime"), number(5)),
+                (text("StatusLTimes"), of_map([(text(name), number(2)) for name in names])),
+                (text("LeftMembers"), b"\xc0"),
+                (text("EventLTime"), number(1)),
+                (text("Events"), b"\xc0"),
+                (text("QueryLTime"), number(1)),
+            ]
+        )
+        header = of_map(
+            [
+                (text("Nodes"), b"\xcd" + struct.pack(">H", self.count)),
+                (text("UserStateLen"), b"\xce" + struct.pack(">I", len(own))),
+                (text("Join"), b"\xc2"),
+            ]
+        )
         return b"\x06" + header + nodes + own
 
     def serve(self):
@@ -151,8 +170,11 @@ def among_members(kind, agent, crowd, events):
         many = memory(agent)
         rate, taken, _ = agent_speed.speed(agent, events)
         time.sleep(5)
-        print(f"{kind}: {alone:.0f} MiB alone, {many:.0f} among {crowd.count} members, {memory(agent):.0f} after {taken} events ({rate:.0f} a second), "
-              f"{memory(agent, 'VmHWM'):.0f} at most; failed by then: {'none' if asker.says('failed', 0) else 'some'}", flush=True)
+        print(
+            f"{kind}: {alone:.0f} MiB alone, {many:.0f} among {crowd.count} members, {memory(agent):.0f} after {taken} events ({rate:.0f} a second), "
+            f"{memory(agent, 'VmHWM'):.0f} at most; failed by then: {'none' if asker.says('failed', 0) else 'some'}",
+            flush=True,
+        )
     finally:
         agent.end()
 
@@ -164,7 +186,10 @@ def of_many(kind, agents, together):
     try:
         began = time.monotonic()
         for at in range(0, len(rest), together):
-            starts = [threading.Thread(target=one.start, args=("-log-level", "err", "-retry-join", first.addr)) for one in rest[at : at + together]]
+            starts = [
+                threading.Thread(target=one.start, args=("-log-level", "err", "-retry-join", first.addr))
+                for one in rest[at : at + together]
+            ]
             for start in starts:
                 start.start()
             for start in starts:
@@ -176,7 +201,9 @@ def of_many(kind, agents, together):
         def all_say(name, value):
             waiting = list(lacks)
             with ThreadPoolExecutor(16) as pool:
-                lacks.difference_update([agent for agent, says in zip(waiting, pool.map(lambda agent: askers[agent].says(name, value), waiting)) if says])
+                lacks.difference_update(
+                    [agent for agent, says in zip(waiting, pool.map(lambda agent: askers[agent].says(name, value), waiting)) if says]
+                )
             return not lacks
 
         knows = until(lambda: all_say("members", len(agents)), LIMIT)
@@ -185,8 +212,11 @@ def of_many(kind, agents, together):
         first.serf("event", "-coalesce=false", "deploy", "v1")
         hears = until(lambda: all_say("event_time", 2), LIMIT)
         heard = time.monotonic()
-        print(f"{kind}: {len(agents)} agents started in {last - began:.1f} s, all knew all {known - last:.1f} s later ({knows}), "
-              f"an event was everywhere after {heard - known:.1f} s ({hears}), {sum(memory(agent) for agent in agents) / len(agents):.0f} MiB each", flush=True)
+        print(
+            f"{kind}: {len(agents)} agents started in {last - began:.1f} s, all knew all {known - last:.1f} s later ({knows}), "
+            f"an event was everywhere after {heard - known:.1f} s ({hears}), {sum(memory(agent) for agent in agents) / len(agents):.0f} MiB each",
+            flush=True,
+        )
     finally:
         for agent in agents:
             agent.end()

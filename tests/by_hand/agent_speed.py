@@ -45,7 +45,12 @@ def number(value):
 
 def event(time_of_it):
     """The packet of an event, as Serf spells it."""
-    pairs = [(text("LTime"), number(time_of_it)), (text("Name"), text("deploy")), (text("Payload"), text(f"v{time_of_it}")), (text("CC"), b"\xc2")]
+    pairs = [
+        (text("LTime"), number(time_of_it)),
+        (text("Name"), text("deploy")),
+        (text("Payload"), text(f"v{time_of_it}")),
+        (text("CC"), b"\xc2"),
+    ]
     return b"\x03\x84" + b"".join(key + value for key, value in pairs)
 
 
@@ -61,7 +66,16 @@ class Stream:
     def __init__(self, agent):
         host, port = agent.rpc.split(":")
         self.conn = socket.create_connection((host, int(port)), 10)
-        request = lambda command, seq, key, value: b"\x82" + text("Command") + text(command) + text("Seq") + number(seq) + b"\x81" + text(key) + value
+        request = (
+            lambda command, seq, key, value: b"\x82"
+            + text("Command")
+            + text(command)
+            + text("Seq")
+            + number(seq)
+            + b"\x81"
+            + text(key)
+            + value
+        )
         self.conn.sendall(request("handshake", 1, "Version", b"\x01") + request("stream", 2, "Type", text("user")))
         self.count, self.rest = 0, b""
         time.sleep(0.5)
@@ -116,7 +130,9 @@ def joined(agent, peer):
 
 def print_row(what, found, unit):
     for kind, all_of_it in found.items():
-        print(f"{what}, {kind}: {statistics.median(all_of_it):.4g} {unit} ({min(all_of_it):.4g} to {max(all_of_it):.4g}, {len(all_of_it)} times)")
+        print(
+            f"{what}, {kind}: {statistics.median(all_of_it):.4g} {unit} ({min(all_of_it):.4g} to {max(all_of_it):.4g}, {len(all_of_it)} times)"
+        )
 
 
 def main():
@@ -157,7 +173,10 @@ def main():
                 finally:
                     one.end()
                 size = os.path.getsize(one.snapshot) / 1024
-                print(f"{kind}: {rate:.0f} events a second, {count} of {options.events}, {cost:.0f} us of the processor each, {size:.0f} KiB", flush=True)
+                print(
+                    f"{kind}: {rate:.0f} events a second, {count} of {options.events}, {cost:.0f} us of the processor each, {size:.0f} KiB",
+                    flush=True,
+                )
                 speeds[kind].append(rate)
                 costs[kind].append(cost)
         peer = agent("stock", 1).start()

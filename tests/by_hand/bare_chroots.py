@@ -32,7 +32,18 @@ BINFMT = "/proc/sys/fs/binfmt_misc"
 
 # What a C compiler is in Debian, and what apt-get does without.
 CC = "gcc libc6-dev"
-APT = ["apt-get", "-y", "-q", "--no-install-recommends", "-o", "Acquire::Languages=none", "-o", "DPkg::Options::=--force-unsafe-io", "-o", "Dir::Cache::archives=/debs"]
+APT = [
+    "apt-get",
+    "-y",
+    "-q",
+    "--no-install-recommends",
+    "-o",
+    "Acquire::Languages=none",
+    "-o",
+    "DPkg::Options::=--force-unsafe-io",
+    "-o",
+    "Dir::Cache::archives=/debs",
+]
 
 TWICE = ("handled deploy at 1", "handled deploy at 2")
 PYTHON = "\n".join(["own/bin/python host.py", "own/bin/python host.py"])
@@ -68,9 +79,21 @@ class Row:
 
 
 ROWS = {
-    "wheel": Row("python3-venv", ["serf_agent-*_{machine}.whl"], f"python3 -m venv own\nown/bin/pip install -q --no-index ./serf_agent-*.whl\n{PYTHON}"),
-    "wheel, without a venv": Row("python3-pip", ["serf_agent-*_{machine}.whl"], "pip install -q --no-index --break-system-packages ./serf_agent-*.whl\npython3 host.py\npython3 host.py"),
-    "source package": Row(f"python3-venv {CC}", ["serf_agent-*.tar.gz"], f"python3 -m venv own\nown/bin/pip install -q --no-index ./serf_agent-*.tar.gz\n{PYTHON}"),
+    "wheel": Row(
+        "python3-venv",
+        ["serf_agent-*_{machine}.whl"],
+        f"python3 -m venv own\nown/bin/pip install -q --no-index ./serf_agent-*.whl\n{PYTHON}",
+    ),
+    "wheel, without a venv": Row(
+        "python3-pip",
+        ["serf_agent-*_{machine}.whl"],
+        "pip install -q --no-index --break-system-packages ./serf_agent-*.whl\npython3 host.py\npython3 host.py",
+    ),
+    "source package": Row(
+        f"python3-venv {CC}",
+        ["serf_agent-*.tar.gz"],
+        f"python3 -m venv own\nown/bin/pip install -q --no-index ./serf_agent-*.tar.gz\n{PYTHON}",
+    ),
     "crate": Row("cargo", ["serf-replay-*-linux.tar.gz"], f"{UNPACK}\n{CRATE}"),
     "crate, by clang-16": Row("cargo clang-16", ["serf-replay-*-linux.tar.gz"], f"{UNPACK}\nexport SERF_AGENT_FROM_SOURCE=1\n{CRATE}"),
     "Go module": Row(
@@ -99,7 +122,9 @@ ROWS = {
         './host\n./host\n[ "object $(sha256sum <serf_agent_c.o | cut -d " " -f 1)" = "$(grep ^object release/bindings/source/{machine}/digests)" ]\necho the digest is right',
         (*TWICE, "the digest is right"),
     ),
-    "Debian package": Row("serf", ["kitchenrue-agent_*_{arch}.deb"], AGENT, ("handled deploy v1",), "apt-get install -y -q ./kitchenrue-agent_*.deb"),
+    "Debian package": Row(
+        "serf", ["kitchenrue-agent_*_{arch}.deb"], AGENT, ("handled deploy v1",), "apt-get install -y -q ./kitchenrue-agent_*.deb"
+    ),
     "program": Row(
         "",
         ["serf-replay-*-linux.tar.gz"],
@@ -116,7 +141,9 @@ class Stopped(Exception):
 
 def run_command(words, **more):
     """The status of a command, and what it prints."""
-    result = subprocess.run(words, stdin=subprocess.DEVNULL, stdout=subprocess.PIPE, stderr=subprocess.STDOUT, text=True, errors="replace", **more)
+    result = subprocess.run(
+        words, stdin=subprocess.DEVNULL, stdout=subprocess.PIPE, stderr=subprocess.STDOUT, text=True, errors="replace", **more
+    )
     return result.returncode, result.stdout
 
 
@@ -222,7 +249,14 @@ def inside(root, script, user, net, debs):
     own += "" if net else "ip link set lo up && "
     enter = ["chroot", root, "su", "-", user, "-s", "/bin/bash", "-c", f"set -e\n{script}"]
     words = ["unshare", "--mount", "--pid", "--fork", *([] if net else ["--net"]), "sh", "-c", own + 'exec "$@"', "sh", *enter]
-    return run_command(words, env={"PATH": "/usr/local/sbin:/usr/local/bin:/usr/sbin:/usr/bin:/sbin:/bin", "LANG": "C.UTF-8", "DEBIAN_FRONTEND": "noninteractive"})
+    return run_command(
+        words,
+        env={
+            "PATH": "/usr/local/sbin:/usr/local/bin:/usr/sbin:/usr/bin:/sbin:/bin",
+            "LANG": "C.UTF-8",
+            "DEBIAN_FRONTEND": "noninteractive",
+        },
+    )
 
 
 def filled(text, arch):
@@ -230,7 +264,11 @@ def filled(text, arch):
     machine = MACHINES[arch]
     with open(os.path.join(TOP, "PUBLISHER"), encoding="utf-8") as file:
         modules = re.search(r"^modules (.*)$", file.read(), re.M)[1]
-    library = "" if machine == "x86_64" else f"LIBRARY=$PWD/lib/{machine}/libserf_agent_c.a SHARED=out/libserf_agent.so STATIC=out/libserf_agent.a"
+    library = (
+        ""
+        if machine == "x86_64"
+        else f"LIBRARY=$PWD/lib/{machine}/libserf_agent_c.a SHARED=out/libserf_agent.so STATIC=out/libserf_agent.a"
+    )
     for name, value in (("machine", machine), ("arch", arch), ("modules", modules), ("library", library)):
         text = text.replace(f"{{{name}}}", value)
     return text
@@ -303,7 +341,9 @@ def main():
         return 3
     try:
         with tempfile.TemporaryDirectory(prefix="chroots-") as own:
-            passed, failed = rows(options.arch, options.only, options.release, os.path.abspath(options.work or own), options.mirror or mirror())
+            passed, failed = rows(
+                options.arch, options.only, options.release, os.path.abspath(options.work or own), options.mirror or mirror()
+            )
     except Stopped as why:
         print(f"bare_chroots: {why}", file=sys.stderr)
         return 3

@@ -32,7 +32,12 @@ def main(words):
         result = subprocess.run(["./serf-replay", "replay", EXAMPLE + ".schedule"], cwd=top, capture_output=True)
         with open(os.path.join(top, EXAMPLE + ".trace"), "rb") as trace:
             runs = (result.returncode, result.stdout, result.stderr) == (0, trace.read(), b"")
-    results = [("the program is built", built == 0), ("the proved program runs", runs), ("the first call within 120 seconds", first <= 120), (f"within {maximum} seconds", took <= maximum)]
+    results = [
+        ("the program is built", built == 0),
+        ("the proved program runs", runs),
+        ("the first call within 120 seconds", first <= 120),
+        (f"within {maximum} seconds", took <= maximum),
+    ]
     for name, holds in results:
         if not holds:
             print(f"FAILED {name}")

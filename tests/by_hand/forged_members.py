@@ -2,8 +2,8 @@
 
     tests/by_hand/forged_members.py [--plain | --encrypted] [--forged N] [--stock] [--library FOLDER] [--agent PROGRAM]
 
-It runs in a separate network. Four agents form a cluster, and one of them receives N forged members in UDP packets and states of memberlist,
-as fast as it reads them; nobody answers for these. With a key, the sender has the key. Then:
+It runs in a separate network. Four agents form a cluster, and one of them receives N forged members in UDP packets and states of
+memberlist, as fast as it reads them; nobody answers for these. With a key, the sender has the key. Then:
 
 - a new machine joins within ten seconds, during the flood and after it, and the attacked agent and another one see it alive;
 - 20 events are fired at the four agents in turn, before the flood, in the first minute after it and two minutes later, and of the 80 runs
@@ -84,7 +84,11 @@ class Siege:
             seen = until(lambda: self.agents[0].status(new.name) == self.agents[1].status(new.name) == "alive", JOIN)
             took = time.monotonic() - began
             print(f"  {when}: the command `serf join` took {joined:.2f} s, and after {took:.2f} s both agents saw it", flush=True)
-            self.check(f"a new machine joins {when}", status == 0 and seen and took <= JOIN, f"{status}, {output.strip()}, {took:.1f} s, {[agent.status(new.name) for agent in self.agents]}")
+            self.check(
+                f"a new machine joins {when}",
+                status == 0 and seen and took <= JOIN,
+                f"{status}, {output.strip()}, {took:.1f} s, {[agent.status(new.name) for agent in self.agents]}",
+            )
         finally:
             # (a member that was killed would draw gossip until it is found dead)
             new.serf("leave")
@@ -138,7 +142,12 @@ class Siege:
         for agent in self.agents:
             listed = agent.serf("members")[1]
             self.check(f"{agent.name} has no forged member", "forged" not in listed, f"{len(listed.splitlines())} members")
-        print("  its counts:", ", ".join(f"{name} {value}" for name, value in sorted(self.counts(self.agents[0]).items()) if name.startswith(("refused", "members"))))
+        print(
+            "  its counts:",
+            ", ".join(
+                f"{name} {value}" for name, value in sorted(self.counts(self.agents[0]).items()) if name.startswith(("refused", "members"))
+            ),
+        )
 
 
 def main():

@@ -61,7 +61,9 @@ def main():
     with tempfile.TemporaryDirectory(dir=asked.on) as own, tempfile.TemporaryDirectory() as folder:
         program = os.path.join(folder, "speed")
         library = os.path.join(asked.library or os.path.dirname(c_library.LIBRARY), "libserf_agent_c.a")
-        subprocess.run(["go", "build", "-o", program, SPEED], check=True, env=serf_package.laid(folder, os.path.abspath(library)), cwd=folder)
+        subprocess.run(
+            ["go", "build", "-o", program, SPEED], check=True, env=serf_package.laid(folder, os.path.abspath(library)), cwd=folder
+        )
         end = time.monotonic() + 60 * asked.minutes
         for number in range(asked.rounds):
             if time.monotonic() > end:
@@ -69,7 +71,14 @@ def main():
             for kind in list(KINDS)[:: 1 if number % 2 else -1]:
                 for of_what, one in zip(found.values(), run_events(program, own, asked.events, KINDS[kind])):
                     of_what[kind].append(one)
-            print(f"load {os.getloadavg()[0]:.0f}: " + "; ".join(f"{what} {', '.join(f'{kind} {all_of_kind[-1]:,.0f}' for kind, all_of_kind in of_what.items())}" for what, of_what in found.items()), flush=True)
+            print(
+                f"load {os.getloadavg()[0]:.0f}: "
+                + "; ".join(
+                    f"{what} {', '.join(f'{kind} {all_of_kind[-1]:,.0f}' for kind, all_of_kind in of_what.items())}"
+                    for what, of_what in found.items()
+                ),
+                flush=True,
+            )
     good = [print_comparison(what, *of_what.values()) >= MIN_RATIO for what, of_what in found.items()]
     print("passed" if all(good) else "FAILED")
     return 0 if all(good) else 1
@@ -78,7 +87,9 @@ def main():
 def print_comparison(what, guarded, plain):
     """Prints events a second with the guard and without: returns the share of the medians."""
     for kind, all_of_kind in zip(KINDS, (guarded, plain)):
-        print(f"{what}, {kind}: {statistics.median(all_of_kind):,.0f} events a second, the median of {len(all_of_kind)}; {min(all_of_kind):,.0f} to {max(all_of_kind):,.0f}")
+        print(
+            f"{what}, {kind}: {statistics.median(all_of_kind):,.0f} events a second, the median of {len(all_of_kind)}; {min(all_of_kind):,.0f} to {max(all_of_kind):,.0f}"
+        )
     share = statistics.median(guarded) / statistics.median(plain)
     print(f"{what}: of the medians {share:.3f}; of the rounds the median {statistics.median(a / b for a, b in zip(guarded, plain)):.3f}")
     return share

@@ -8,12 +8,12 @@ It runs in a separate network, since the agent sends to whatever address a packe
 connections, and floods of members, deaths, intents, events, queries and states, with times that are implausibly far ahead. With a key,
 all hostile data is from a sender that has the key, and some is from one without it.
 
-Meanwhile an event is fired at the agent every ten seconds, and its handler has to run. From the far side, a friend that has been a member
-from the start fires one too, and the script counts the events that reach the agent from it and it from the agent: at least half of them
-have to. (Floods of events whose times are far ahead make the friend's clock late for a moment, so that its events are too old. Datagrams are
-lost if more arrive than the agent can read.) A new name joins while the floods last, within ten seconds. At the end no clock is stuck: the agent is the
-same process, its clocks are far from their end, and a new node whose clocks are at their start joins it, receives an event that the agent
-fires, and is received. The agent had at most 64 MiB more than when it was idle.
+Meanwhile an event is fired at the agent every ten seconds, and its handler has to run. From the far side, a friend that has been a
+member from the start fires one too, and the script counts the events that reach the agent from it and it from the agent: at least half
+of them have to. (Floods of events whose times are far ahead make the friend's clock late for a moment, so that its events are too old.
+Datagrams are lost if more arrive than the agent can read.) A new name joins while the floods last, within ten seconds. At the end no
+clock is stuck: the agent is the same process, its clocks are far from their end, and a new node whose clocks are at their start joins
+it, receives an event that the agent fires, and is received. The agent had at most 64 MiB more than when it was idle.
 """
 
 import argparse
@@ -100,7 +100,14 @@ class Hour:
 
     def made(self, name, number):
         agent = Agent(self.folder, self.program, name, number)
-        agent.words = ["-snapshot", agent.snapshot, "-log-level", "warn", "-event-handler", f"user:honest=sh {self.handler} {agent.handled}"]
+        agent.words = [
+            "-snapshot",
+            agent.snapshot,
+            "-log-level",
+            "warn",
+            "-event-handler",
+            f"user:honest=sh {self.handler} {agent.handled}",
+        ]
         agent.words += ["-encrypt", KEY] if self.is_keyed else []
         return agent
 
@@ -148,7 +155,13 @@ class Hour:
         self.check("a friend is a member", until(lambda: self.agent.status("friend") == "alive", 60))
         time.sleep(10)
         idle = mib(self.agent, "VmRSS")
-        env = {**os.environ, "GUARD_AT": f"{self.agent.addr}:7946", "GUARD_NAME": self.agent.name, "GUARD_SEED": str(seed), "GUARD_SECONDS": str(int(60 * minutes))}
+        env = {
+            **os.environ,
+            "GUARD_AT": f"{self.agent.addr}:7946",
+            "GUARD_NAME": self.agent.name,
+            "GUARD_SEED": str(seed),
+            "GUARD_SECONDS": str(int(60 * minutes)),
+        }
         env |= {"GUARD_KEYED": "1"} if self.is_keyed else {}
         words = [guard, "-test.run", "^TestOutside$", "-test.v", "-test.timeout", "0"]
         sender = subprocess.Popen(words, env=env, stdout=subprocess.PIPE, stderr=subprocess.STDOUT, text=True)
@@ -181,16 +194,27 @@ class Hour:
         friend = self.made("late", 4).start()
         try:
             self.check("a node begins with fresh clocks", max(clocks_of(friend).values()) < 9, clocks_of(friend))
-            joined = lambda: friend.serf("join", self.agent.addr)[0] == 0 and self.agent.status("late") == friend.status("victim") == "alive"
+            joined = (
+                lambda: friend.serf("join", self.agent.addr)[0] == 0 and self.agent.status("late") == friend.status("victim") == "alive"
+            )
             self.check("it is a member", until(joined, 60))
             clocks = clocks_of(self.agent)
-            self.check("the floods moved its clocks, and none is near its end", FAR // 2 <= min(clocks.values()) and max(clocks.values()) < FAR, clocks)
+            self.check(
+                "the floods moved its clocks, and none is near its end",
+                FAR // 2 <= min(clocks.values()) and max(clocks.values()) < FAR,
+                clocks,
+            )
             for name, at, by in (("the agent's event reaches it", self.agent, friend), ("its event reaches the agent", friend, self.agent)):
                 self.check(name, self.fires(at, by, lambda: friend.serf("join", "-replay", self.agent.addr)))
             info = info_of(self.agent)
         finally:
             friend.end()
-        print("its counts:", ", ".join(f"{name} {value}" for name, value in sorted(info.items()) if re.match("refused|dropped|members|failed|.*_time", name)))
+        print(
+            "its counts:",
+            ", ".join(
+                f"{name} {value}" for name, value in sorted(info.items()) if re.match("refused|dropped|members|failed|.*_time", name)
+            ),
+        )
 
 
 def main():

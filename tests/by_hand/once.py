@@ -132,7 +132,9 @@ def judge(run, is_done, is_rerun):
         "events are still open": [] if is_done else [run.open_events()],
         "began too often": repeated(began, 2 if is_rerun else 1),
         "began twice, and were not reported": [number for number in repeated(began) if number not in reported],
-        "were confirmed, and neither ended nor were reported": [number for number in run.confirmed if number not in ended and number not in reported],
+        "were confirmed, and neither ended nor were reported": [
+            number for number in run.confirmed if number not in ended and number not in reported
+        ],
         "began and did not end, and were not reported": [number for number in set(began) if number not in ended and number not in reported],
     }
 

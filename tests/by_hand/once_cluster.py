@@ -3,17 +3,19 @@
     tests/by_hand/once_cluster.py [--kills N] [--minutes M] [--seed S] [--ours N] [--stock N] [--waiting N] [--rest SECONDS]
                                   [--net ADDRESS] [--agent PROGRAM] [--library FOLDER] [--keep]
 
-The cluster has five agents with `-keep-events` and three stock agents, each with a handler that takes 0 to 200 milliseconds, and writes a line
-when it begins and when it ends. Events are fired at random nodes by `serf event`, so fast that about --waiting events always wait for
-their handlers. Random nodes are killed by SIGKILL, every second time together with the handler that runs, and some of them while they
-start. Each starts again on its snapshot. The run ends after so many kills or minutes, whichever is first. Then the cluster rests, until
-no handler of ours has run for --rest seconds (agents exchange their states every 30 seconds) and no event of theirs is open.
+The cluster has five agents with `-keep-events` and three stock agents, each with a handler that takes 0 to 200 milliseconds, and writes
+a line when it begins and when it ends. Events are fired at random nodes by `serf event`, so fast that about --waiting events always
+wait for their handlers. Random nodes are killed by SIGKILL, every second time together with the handler that runs, and some of them
+while they start. Each starts again on its snapshot. The run ends after so many kills or minutes, whichever is first. Then the cluster
+rests, until no handler of ours has run for --rest seconds (agents exchange their states every 30 seconds) and no event of theirs is
+open.
 
-On each node of ours, each event that a `serf event` confirmed and that reached the node has to be exactly one of these: its handler ran once
-to its end; it began, was cut off, and a start reported that; or it still waits. No handler may begin twice, and no event may be without a
-word. An event has reached a node if its handler began there, or if the node's file had its line at a kill or at the end. What a node of ours
-confirmed has to reach all nodes of ours, since a node keeps what it fired. What a stock agent confirmed and never sent is counted, and so is
-what became of events on the stock agents, as a measure. It needs Go and memberlist, or --agent, and Debian's `serf`.
+On each node of ours, each event that a `serf event` confirmed and that reached the node has to be exactly one of these: its handler ran
+once to its end; it began, was cut off, and a start reported that; or it still waits. No handler may begin twice, and no event may be
+without a word. An event has reached a node if its handler began there, or if the node's file had its line at a kill or at the end. What
+a node of ours confirmed has to reach all nodes of ours, since a node keeps what it fired. What a stock agent confirmed and never sent
+is counted, and so is what became of events on the stock agents, as a measure. It needs Go and memberlist, or --agent, and Debian's
+`serf`.
 """
 
 import argparse
@@ -173,7 +175,9 @@ class Torment:
                 time.sleep(0.05)
                 continue
             node, number, milliseconds = found
-            status, _ = kit.run_serf(["serf", "event", f"-rpc-addr={node.rpc}", "-coalesce=false", "n", f"{number} {milliseconds / 1000:.3f}"])
+            status, _ = kit.run_serf(
+                ["serf", "event", f"-rpc-addr={node.rpc}", "-coalesce=false", "n", f"{number} {milliseconds / 1000:.3f}"]
+            )
             if status == 0:
                 with self.lock:
                     self.confirmed[number] = node.name
@@ -278,14 +282,22 @@ def print_results(torment, is_at_rest):
     for kind, ones in became.items():
         nodes = [node for node in torment.nodes if node.kind == kind]
         kills, groups, waited = (sum(getattr(node, name) for node in nodes) for name in ("kills", "group_kills", "waited"))
-        print(f"{kind}: {len(nodes)} nodes, {kills} kills, {groups} of them with the handler; {len(confirmed) * len(nodes):,} pairs of an event and a node")
+        print(
+            f"{kind}: {len(nodes)} nodes, {kills} kills, {groups} of them with the handler; {len(confirmed) * len(nodes):,} pairs of an event and a node"
+        )
         if kind == "ours":
             ended = sum(len(one.cut_off & one.ended) for one in ones)
-            print(f"  {total(ones, 'once'):,} ran once, {total(ones, 'cut_off')} were cut off and reported ({ended} of them ended all the same), {total(ones, 'waits')} still wait")
-            print(f"  {total(ones, 'silent')} lost silently, {total(ones, 'twice')} began twice, {total(ones, 'never')} never reached the node")
+            print(
+                f"  {total(ones, 'once'):,} ran once, {total(ones, 'cut_off')} were cut off and reported ({ended} of them ended all the same), {total(ones, 'waits')} still wait"
+            )
+            print(
+                f"  {total(ones, 'silent')} lost silently, {total(ones, 'twice')} began twice, {total(ones, 'never')} never reached the node"
+            )
             print(f"  {waited:,} times an event waited in the file of a node when it was killed")
         else:
-            print(f"  {total(ones, 'once'):,} ran to their ends, {total(ones, 'cut_off_by_kill')} were cut off silently, {total(ones, 'twice')} began twice")
+            print(
+                f"  {total(ones, 'once'):,} ran to their ends, {total(ones, 'cut_off_by_kill')} were cut off silently, {total(ones, 'twice')} began twice"
+            )
             print(f"  {total(ones, 'never'):,} never ran")
     ours = became["ours"]
     for number in sorted({number for one in ours for number in one.never})[:20]:
@@ -300,7 +312,9 @@ def print_results(torment, is_at_rest):
         ],
         "reached a node of ours, and neither ran, nor were reported, nor wait": [number for one in ours for number in one.silent],
         "wait, and have begun": [number for one in ours for number in one.mixed],
-        "began and did not end, and were not reported": [number for one in ours for number in one.cut_off_by_kill if number not in one.reported],
+        "began and did not end, and were not reported": [
+            number for one in ours for number in one.cut_off_by_kill if number not in one.reported
+        ],
     }
 
 

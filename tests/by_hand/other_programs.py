@@ -77,7 +77,9 @@ RESULT = re.compile(r"^--- (PASS|FAIL): (\w+)", re.M)
 
 
 def run_command(words, **more):
-    result = subprocess.run(words, stdin=subprocess.DEVNULL, stdout=subprocess.PIPE, stderr=subprocess.STDOUT, text=True, errors="replace", **more)
+    result = subprocess.run(
+        words, stdin=subprocess.DEVNULL, stdout=subprocess.PIPE, stderr=subprocess.STDOUT, text=True, errors="replace", **more
+    )
     return result.returncode, result.stdout
 
 
@@ -183,13 +185,18 @@ def try_docker(count, sources, library):
         cwd, found = sources.of("go/src/github.com/docker/libnetwork", name), {}
         for kind, env in envs.items():
             program = sources.of(f"{os.path.basename(name)}-{'ours' if kind == 'ours' else 'stock'}")
-            status, output = run_command(["go", "test", "-c", "-o", program, f"github.com/docker/libnetwork/{name}"], env=env, cwd=sources.folder)
+            status, output = run_command(
+                ["go", "test", "-c", "-o", program, f"github.com/docker/libnetwork/{name}"], env=env, cwd=sources.folder
+            )
             count.check(f"{name} is compiled over {kind}", status == 0, output[-1500:])
             if status == 0:
                 found[kind] = passing(program, cwd)
         if len(found) == 2:
             (stock, failed, output), (ours, not_ours, our_words) = found["Serf's"], found["ours"]
-            print(f"{name}: {len(stock)} tests pass over Serf's package, {len(ours)} over ours; over Serf's {sorted(failed)} fail, over ours {sorted(not_ours)}", flush=True)
+            print(
+                f"{name}: {len(stock)} tests pass over Serf's package, {len(ours)} over ours; over Serf's {sorted(failed)} fail, over ours {sorted(not_ours)}",
+                flush=True,
+            )
             count.check(f"{name}: enough tests pass over Serf's package", len(stock) >= minimum, output)
             count.check(f"{name}: the same tests pass over ours", stock <= ours, our_words)
 

@@ -10,8 +10,8 @@ on EventCh, and the memory after 100,000 events.
 Then 32 connections fire by the RPC of an agent, on snapshots: Serf's own, Serf's own program over our package, and ours, each with its
 default log level (info), and with a log of errors only.
 
-To compare two commits, run --build in a clone of one of them: it leaves the programs firing-stock and firing-ours in the folder. Then pass that
-firing-ours to --other in the other clone. It takes its turns too, and nothing is fired by RPC.
+To compare two commits, run --build in a clone of one of them: it leaves the programs firing-stock and firing-ours in the folder. Then
+pass that firing-ours to --other in the other clone. It takes its turns too, and nothing is fired by RPC.
 """
 
 import argparse
@@ -60,7 +60,9 @@ def by_rpc(programs, agent, level):
     agent.words = ["-snapshot", agent.snapshot, "-log-level", level]
     agent.start()
     try:
-        said = subprocess.run([programs["stock"], f"rpc:{agent.rpc}", str(CONNECTIONS), str(BY_RPC)], check=True, stdout=subprocess.PIPE, text=True).stdout
+        said = subprocess.run(
+            [programs["stock"], f"rpc:{agent.rpc}", str(CONNECTIONS), str(BY_RPC)], check=True, stdout=subprocess.PIPE, text=True
+        ).stdout
         return float(said)
     finally:
         agent.end()
@@ -100,15 +102,25 @@ def main():
             for kind in programs:
                 speeds, lost, memory = zip(*found[kind])
                 where = "on a snapshot" if on_file else "in memory"
-                print(f"{kind}, {callers} callers {where}: {statistics.median(speeds):.0f} events a second ({min(speeds):.0f} to {max(speeds):.0f}), {max(lost)} of {events} never arrived, {max(memory):.1f} MiB", flush=True)
+                print(
+                    f"{kind}, {callers} callers {where}: {statistics.median(speeds):.0f} events a second ({min(speeds):.0f} to {max(speeds):.0f}), {max(lost)} of {events} never arrived, {max(memory):.1f} MiB",
+                    flush=True,
+                )
         if options.other:
             return 0
         over = kit.build_serf(tempfile.mkdtemp(dir=folder), options.library)
         agents = {"stock": ["serf", "agent"], "cmd/serf over ours": [over, "agent"], "ours": [kit.build(folder, options.library, [])]}
         for level in LEVELS:
-            found = by_turns(agents, options.rounds, lambda kind, at: by_rpc(programs, Agent(tempfile.mkdtemp(dir=folder), agents[kind], "node", at, net="127.0.10"), level))
+            found = by_turns(
+                agents,
+                options.rounds,
+                lambda kind, at: by_rpc(programs, Agent(tempfile.mkdtemp(dir=folder), agents[kind], "node", at, net="127.0.10"), level),
+            )
             for kind, speeds in found.items():
-                print(f"{kind}, {CONNECTIONS} connections by RPC, log at {level}: {statistics.median(speeds):.0f} events a second ({min(speeds):.0f} to {max(speeds):.0f})", flush=True)
+                print(
+                    f"{kind}, {CONNECTIONS} connections by RPC, log at {level}: {statistics.median(speeds):.0f} events a second ({min(speeds):.0f} to {max(speeds):.0f})",
+                    flush=True,
+                )
     finally:
         shutil.rmtree(folder)
     return 0

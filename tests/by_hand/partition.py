@@ -56,7 +56,9 @@ class Incident:
         """Cuts or mends the link: while it is cut, each side has link-layer addresses for the other side that nobody has."""
         for side, names in SIDES.items():
             for beyond in sorted(set(ADDRESS) - set(names)):
-                about = ["dev", self.links[side]] if is_whole else ["lladdr", "02:00:00:00:00:99", "nud", "permanent", "dev", self.links[side]]
+                about = (
+                    ["dev", self.links[side]] if is_whole else ["lladdr", "02:00:00:00:00:99", "nud", "permanent", "dev", self.links[side]]
+                )
                 ip("-n", self.spaces[side], "neigh", "del" if is_whole else "replace", ADDRESS[beyond], *about)
 
     def inside(self, name):
@@ -71,10 +73,16 @@ class Incident:
         words += [f"-snapshot={name}.snapshot", f"-event-handler=user={HANDLER}", *more]
         env = {**os.environ, "SERF_LOG": os.path.join(self.folder, "handlers.log")}
         with open(os.path.join(self.folder, f"{name}.agent.log"), "a", encoding="utf-8") as log:
-            self.running[name] = subprocess.Popen([*self.inside(name), *words], cwd=self.folder, env=env, stdin=subprocess.DEVNULL, stdout=log, stderr=log)
+            self.running[name] = subprocess.Popen(
+                [*self.inside(name), *words], cwd=self.folder, env=env, stdin=subprocess.DEVNULL, stdout=log, stderr=log
+            )
 
     def fire(self, name, event, payload):
-        subprocess.run([*self.inside(name), "serf", "event", f"-rpc-addr={ADDRESS[name]}:7373", "-coalesce=false", event, payload], check=True, stdout=subprocess.DEVNULL)
+        subprocess.run(
+            [*self.inside(name), "serf", "event", f"-rpc-addr={ADDRESS[name]}:7373", "-coalesce=false", event, payload],
+            check=True,
+            stdout=subprocess.DEVNULL,
+        )
         time.sleep(MOMENT)
 
     def alive(self, name):

@@ -1,10 +1,12 @@
 """By hand, since it needs Go and Serf's sources: how many events a second agents fire by RPC, each compared with Serf's own.
 
-    tests/by_hand/rpc_speed.py [--connections N] [--rounds N] [--events N] [--level LEVEL] [--on FOLDER] [--library FOLDER] [--other PROGRAM]
+    tests/by_hand/rpc_speed.py [--connections N] [--rounds N] [--events N] [--level LEVEL] [--on FOLDER] [--library FOLDER]
+                               [--other PROGRAM]
 
-In each round, Serf's agent and ours take their turns, each alone, on a fresh snapshot in the folder, and so many connections fire at it. If
-`chrt` may do so, the agents and the client run in real-time priority, so that a busy machine disturbs the rounds less. A line has the median
-of the events in a second, the median of each round's ratio to Serf's agent with its quartiles, and the agent's processor time for an event.
+In each round, Serf's agent and ours take their turns, each alone, on a fresh snapshot in the folder, and so many connections fire at
+it. If `chrt` may do so, the agents and the client run in real-time priority, so that a busy machine disturbs the rounds less. A line
+has the median of the events in a second, the median of each round's ratio to Serf's agent with its quartiles, and the agent's processor
+time for an event.
 
 To compare two commits, build the agent in a clone of one of them (`agent/build`), and name it by --other.
 """
@@ -83,12 +85,18 @@ def main():
     folder = tempfile.mkdtemp(prefix="rpc-speed-", dir=asked.on)
     try:
         first, firing = first_words(), package_speed.build(folder, asked.library)["stock"]
-        agents = {"stock": ["serf", "agent"], "ours": [kit.build(folder, asked.library, ())], **({"other": [asked.other]} if asked.other else {})}
+        agents = {
+            "stock": ["serf", "agent"],
+            "ours": [kit.build(folder, asked.library, ())],
+            **({"other": [asked.other]} if asked.other else {}),
+        }
         found, number = {kind: [] for kind in agents}, 0
         for turn in range(asked.rounds):
             for kind in list(agents)[:: -1 if turn % 2 else 1]:
                 number += 1
-                agent = Agent(tempfile.mkdtemp(dir=folder), [*first, *agents[kind]], "node", 1 + number % 250, net=f"127.0.{20 + number // 250}")
+                agent = Agent(
+                    tempfile.mkdtemp(dir=folder), [*first, *agents[kind]], "node", 1 + number % 250, net=f"127.0.{20 + number // 250}"
+                )
                 found[kind].append(fire(firing, first, agent, asked))
         print(f"{asked.connections} connections, log level {asked.level}, load {open('/proc/loadavg', encoding='ascii').read().split()[0]}")
         for kind, results in found.items():

@@ -58,7 +58,9 @@ def main(words):
     for name, one in zip(names, founds):
         print(f"{name}: {one.said()}")
     count = sum(one.seed is not None for one in founds)
-    print(f"{count} of {len(names)} switches are found by seeds {seeds}; not {', '.join(name for name, one in zip(names, founds) if one.seed is None) or 'one is missed'}")
+    print(
+        f"{count} of {len(names)} switches are found by seeds {seeds}; not {', '.join(name for name, one in zip(names, founds) if one.seed is None) or 'one is missed'}"
+    )
     calls = sorted(one.calls for one in founds if one.calls is not None)
     median = statistics.median(calls) if calls else 0
     print(f"of {len(calls)} shrunk schedules the median has {median} calls, the longest {max(calls, default=0)}")

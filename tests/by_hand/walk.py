@@ -101,7 +101,12 @@ def files_of():
     import edits
 
     crates = os.listdir(os.path.join(TOP, "crates"))
-    return {f"{crate}::{name}": (crate, path) for crate in crates for path in edits.source_files(crate) for _, name, _ in edits.functions_in(crate, path)}
+    return {
+        f"{crate}::{name}": (crate, path)
+        for crate in crates
+        for path in edits.source_files(crate)
+        for _, name, _ in edits.functions_in(crate, path)
+    }
 
 
 def main(words):
@@ -113,7 +118,13 @@ def main(words):
         lines = len(file.read().rstrip("\n").split("\n"))
     found = os.path.join(TOP, "crates", PROGRAM, "out", "walk.txt")
     env = {"WALK_WORDS": "\n".join([*command(), "replay", os.path.abspath(schedules[0])]), "WALK_LINES": str(lines), "WALK_FOUND": found}
-    subprocess.run(["gdb", "-nx", "-batch", "-x", os.path.abspath(__file__)], check=True, stdout=subprocess.DEVNULL, stderr=subprocess.DEVNULL, env={**os.environ, **env})
+    subprocess.run(
+        ["gdb", "-nx", "-batch", "-x", os.path.abspath(__file__)],
+        check=True,
+        stdout=subprocess.DEVNULL,
+        stderr=subprocess.DEVNULL,
+        env={**os.environ, **env},
+    )
     with open(found, encoding="utf-8") as file:
         entered = list(dict.fromkeys(re.sub(r"::<.*", "", line) for line in file.read().split("\n")))
     files = files_of()
@@ -121,7 +132,9 @@ def main(words):
     own = [name for name in known if not FOR_PROOFS.search(name)]
     if "--list" in words:
         print("\n".join(f"{name}  {files[name][0]}/{files[name][1]}" for name in own))
-    print(f"{len(own)} functions in {len({files[name] for name in own})} files of {len({files[name][0] for name in own})} crates; and {len(known) - len(own)} for proofs")
+    print(
+        f"{len(own)} functions in {len({files[name] for name in own})} files of {len({files[name][0] for name in own})} crates; and {len(known) - len(own)} for proofs"
+    )
     return 0
 
 

@@ -75,8 +75,12 @@ def in_c(count, places):
     if run:
         embed.example(count, "C", places, [run])
     # (the compiler's own name, because make links the shared library with it)
-    tools = [f"{name}={COMPILER.replace('gcc', tool)}" for name, tool in (("CC", "gcc"), ("LD", "ld"), ("AR", "ar"), ("OBJCOPY", "objcopy"))]
-    made = c_library.ran(["make", "-s", "-C", os.path.join(embed.BINDINGS, "c"), f"OUT={places.of('made')}", f"LIBRARY={places.library}", *tools])
+    tools = [
+        f"{name}={COMPILER.replace('gcc', tool)}" for name, tool in (("CC", "gcc"), ("LD", "ld"), ("AR", "ar"), ("OBJCOPY", "objcopy"))
+    ]
+    made = c_library.ran(
+        ["make", "-s", "-C", os.path.join(embed.BINDINGS, "c"), f"OUT={places.of('made')}", f"LIBRARY={places.library}", *tools]
+    )
     count.check("the Makefile", made[0] == 0, made[1])
     shared = places.of("made", "libserf_agent.so")
     kind = c_library.ran(["readelf", "-h", shared])
@@ -88,7 +92,17 @@ def in_go(count, places):
     module = places.of("go")
     shutil.copytree(os.path.join(embed.BINDINGS, "go"), module)
     os.symlink(places.library, os.path.join(module, "serfagent", "libserf_agent_c_arm64.a"))
-    env = {**os.environ, "GOFLAGS": "-mod=mod -trimpath", "GOPROXY": "off", "GO111MODULE": "on", "GOARCH": "arm64", "CGO_ENABLED": "1", "CC": COMPILER, "TEST_EXEC": " ".join(EMULATED), **c_library.LEAN_GO}
+    env = {
+        **os.environ,
+        "GOFLAGS": "-mod=mod -trimpath",
+        "GOPROXY": "off",
+        "GO111MODULE": "on",
+        "GOARCH": "arm64",
+        "CGO_ENABLED": "1",
+        "CC": COMPILER,
+        "TEST_EXEC": " ".join(EMULATED),
+        **c_library.LEAN_GO,
+    }
     path = places.of("go_example")
     status, output = c_library.ran(["go", "build", "-o", path, "./example"], env=env, cwd=module)
     count.check("the example in Go compiles", status == 0, output[-2000:])
@@ -101,7 +115,16 @@ def in_go(count, places):
 
 def crashes(count, places):
     """The host that is killed, with the script of the same name."""
-    words = [sys.executable, os.path.join(TOP, "tests", "library", "crashes.py"), "--kills", str(KILLS), "--slower", str(SLOWER), "--library", places.library]
+    words = [
+        sys.executable,
+        os.path.join(TOP, "tests", "library", "crashes.py"),
+        "--kills",
+        str(KILLS),
+        "--slower",
+        str(SLOWER),
+        "--library",
+        places.library,
+    ]
     embed.count_output(count, "crashes.py", words)
 
 
@@ -146,9 +169,16 @@ def agents(count, places):
     """The agent for aarch64 and the one for x86-64 in one cluster: an event that either fires runs once at both."""
     emulated, own = places.of("agent64"), places.of("agent")
     build = os.path.join(TOP, "agent", "build")
-    status, output = c_library.ran([build, emulated, os.path.dirname(places.library)], env={**os.environ, "GOARCH": "arm64", "CC": COMPILER})
+    status, output = c_library.ran(
+        [build, emulated, os.path.dirname(places.library)], env={**os.environ, "GOARCH": "arm64", "CC": COMPILER}
+    )
     count.check("the agent for aarch64 compiles", status == 0, output[-1500:])
-    status = status or c_library.ran([build, own, os.path.dirname(c_library.LIBRARY)], env={name: value for name, value in os.environ.items() if name != "CC"})[0]
+    status = (
+        status
+        or c_library.ran(
+            [build, own, os.path.dirname(c_library.LIBRARY)], env={name: value for name, value in os.environ.items() if name != "CC"}
+        )[0]
+    )
     count.check("the agent for x86-64 compiles", status == 0)
     if status:
         return
@@ -165,7 +195,11 @@ def agents(count, places):
             count.check(f"{name} fires", fired[0] == 0, fired[1])
         for one in running:
             ran = eventually(lambda one=one: "of a" in one.has_run() and "of b" in one.has_run())
-            count.check(f"{one.name} ran both, each once", ran and sorted(one.has_run().splitlines()) == ["of a", "of b"], (one.has_run(), one.said()))
+            count.check(
+                f"{one.name} ran both, each once",
+                ran and sorted(one.has_run().splitlines()) == ["of a", "of b"],
+                (one.has_run(), one.said()),
+            )
     finally:
         for one in running:
             one.end()
@@ -185,7 +219,17 @@ def from_source(count, places, folders):
         count.check(f"{clang} compiles the text for {target}", status == 0, output[-1500:])
         path = places.of(f"example_{target}")
         own = {"aarch64": os.environ["CC"], "x86_64": "cc"}[target]
-        words = [own, *c_library.STRICT, "-O2", "-o", path, os.path.join(embed.BINDINGS, "c", "example.c"), c_library.STORE, c_library.HEAP, library]
+        words = [
+            own,
+            *c_library.STRICT,
+            "-O2",
+            "-o",
+            path,
+            os.path.join(embed.BINDINGS, "c", "example.c"),
+            c_library.STORE,
+            c_library.HEAP,
+            library,
+        ]
         status, output = c_library.ran(words)
         count.check(f"the example over it compiles for {target}", status == 0, output[-1500:])
         if status == 0:

@@ -1,6 +1,6 @@
 """The agent for operators (`agent/`): builds and packs it as its page says, formats and vets it, runs its own tests and those of the
-package serf that it uses under Go's race detector, turns what they recorded into a schedule (`examples/records/schedule_of_records.py`), and
-tries what the pages show of agents (`agent/shown.py`).
+package serf that it uses under Go's race detector, turns what they recorded into a schedule
+(`examples/records/schedule_of_records.py`), and tries what the pages show of agents (`agent/shown.py`).
 
     tests/library/agent.py [--library FILE] [--over-ci]
 
@@ -46,7 +46,9 @@ def unbuilt(count, library, folder):
         ("without Go", os.path.join(TOP, "agent", "build"), few, "agent/build: go is not on PATH"),
         ("without the library", alone, os.environ["PATH"], "agent/build: libserf_agent_c.a is not in "),
     ):
-        status, output = c_library.ran([script, os.path.join(folder, "none"), library if path == few else folder], env={**os.environ, "PATH": path})
+        status, output = c_library.ran(
+            [script, os.path.join(folder, "none"), library if path == few else folder], env={**os.environ, "PATH": path}
+        )
         count.check(f"agent/build {what}", status == 3 and output.startswith(says) and output.count("\n") == 1, (status, output))
 
 
@@ -67,7 +69,11 @@ def built(count, library, folder):
     status, output = c_library.ran([os.path.join(TOP, "agent", "package", "deb"), package, library], **lean)
     count.check("agent/package/deb", status == 0, output[-2000:])
     status, output = c_library.ran(["dpkg-deb", "-x", package, os.path.join(folder, "package")])
-    count.check("the package has the program", os.access(os.path.join(folder, "package", "usr", "bin", "kitchenrue-agent"), os.X_OK), (status, output))
+    count.check(
+        "the package has the program",
+        os.access(os.path.join(folder, "package", "usr", "bin", "kitchenrue-agent"), os.X_OK),
+        (status, output),
+    )
     packed.check(count, package, os.path.join(folder, "package"))
     installed(count, package)
 
@@ -144,10 +150,18 @@ def recorded(count, folder):
                 lives += call.kind == "open"
                 wanted += [[line[0], *line[1:]] for line in call.reply if line[0] in ("event", "handed")]
             count.check(f"{what}: node {number} was handed the same", handed_out(trace, number) == wanted, trace)
-            count.check(f"{what}: lives of node {number}", sum(line.startswith(f'restart "{node.name.decode()}"') for line in written.splitlines()) == lives, written)
+            count.check(
+                f"{what}: lives of node {number}",
+                sum(line.startswith(f'restart "{node.name.decode()}"') for line in written.splitlines()) == lives,
+                written,
+            )
         answers = {line.split()[0]: line.split()[1:] for line in reversed(trace)}
         actions = [line for line in written.splitlines() if not line.startswith("agent ")]
-        other = [(line, answers[str(at)]) for at, line in enumerate(actions, 1) if " # " in line and line.split(" # ")[1].split()[1:] != answers[str(at)]]
+        other = [
+            (line, answers[str(at)])
+            for at, line in enumerate(actions, 1)
+            if " # " in line and line.split(" # ")[1].split()[1:] != answers[str(at)]
+        ]
         count.check(f"{what}: each call has the answer of the reference", len(actions) == len(answers) and not other, other)
         count.check(f"{what}: all is recorded", sum(" # " in line for line in actions) > 20, written)
         # (of what these nodes sent, only a query with a filter of tags is another packet at a node that it passes)
@@ -158,7 +172,11 @@ def recorded(count, folder):
             count.check(f"{what}: {' '.join(command)}", status == 0 and text, said)
     explained = checks.run_program(["explain", "--agent", "2"], schedule)[1].decode()
     # (by gossip or by a state, whichever was first)
-    count.check("explain says why the third node had the second event", re.search(r'because (slot \d carries )?event 2 "deploy" "v2": ("c" takes|new, and handed out)', explained), explained)
+    count.check(
+        "explain says why the third node had the second event",
+        re.search(r'because (slot \d carries )?event 2 "deploy" "v2": ("c" takes|new, and handed out)', explained),
+        explained,
+    )
     count.check("and from where it continues", "because its snapshot keeps clock" in explained, explained)
 
 
@@ -169,7 +187,9 @@ def shown_of_records(count, folder):
         os.makedirs(os.path.join(own, node))
         shutil.copy(os.path.join(folder, f"{name}.record"), os.path.join(own, node, "record"))
         # (the handlers' logs that such a day leaves)
-        with open(os.path.join(own, node, "record"), encoding="ascii") as record, open(os.path.join(own, node, "handlers.log"), "w", encoding="ascii") as log:
+        with open(os.path.join(own, node, "record"), encoding="ascii") as record, open(
+            os.path.join(own, node, "handlers.log"), "w", encoding="ascii"
+        ) as log:
             for time, event, payload, _ in re.findall(r"^event (\d+) (\S+) (\S+) (\d)$", record.read(), re.M):
                 log.write(f"event {name} {time} {bytes.fromhex(event).decode()} {bytes.fromhex(payload).decode()}\n")
     # (the unproved program is started by a script that needs its own folder)

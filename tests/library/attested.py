@@ -1,14 +1,15 @@
-"""A day of agents that record, under kills, is attested (`examples/records/attest.py`); and it isn't if a file lost a line, or a handler ran again.
+"""A day of agents that record, under kills, is attested (`examples/records/attest.py`); and it isn't if a file lost a line, or a
+handler ran again.
 
     tests/library/attested.py [--library FILE] [--over-ci] [--ours N] [--stock N] [--kills N] [--seed N] [--keep]
 
 Processes of `kitchenrue-agent`, every second one with `-keep-events`, and stock agents run next to each other. Events and queries are
-fired at random nodes, and random nodes of ours are killed by SIGKILL and started again. Then the records, the snapshots and the handlers' logs
-of our nodes have to be attested. Afterwards, the newest flushed line is taken out of the snapshot of a killed node, and a handler's line is
-doubled: attest.py has to refuse that, and to name the file.
+fired at random nodes, and random nodes of ours are killed by SIGKILL and started again. Then the records, the snapshots and the
+handlers' logs of our nodes have to be attested. Afterwards, the newest flushed line is taken out of the snapshot of a killed node, and
+a handler's line is doubled: attest.py has to refuse that, and to name the file.
 
-Go and the sources of memberlist and of Serf have to be installed (`tools/packages`); otherwise the script prints what is missing, and checks
-nothing. Without Debian's `serf` nothing is fired, so it is needed too. --library names another static library than that of
+Go and the sources of memberlist and of Serf have to be installed (`tools/packages`); otherwise the script prints what is missing, and
+checks nothing. Without Debian's `serf` nothing is fired, so it is needed too. --library names another static library than that of
 crates/serf_agent_c, which is built otherwise; --over-ci builds it over what `rt ci` left, as the gate does.
 """
 
@@ -95,7 +96,11 @@ class Cluster:
         node = self.draw.choice([node for node in self.ours if node.is_up()])
         if self.draw.random() < 0.5:
             # (in the middle of a firing)
-            subprocess.Popen(["serf", "event", f"-rpc-addr={node.rpc}", "-coalesce=false", "deploy", "last"], stdout=subprocess.DEVNULL, stderr=subprocess.DEVNULL)
+            subprocess.Popen(
+                ["serf", "event", f"-rpc-addr={node.rpc}", "-coalesce=false", "deploy", "last"],
+                stdout=subprocess.DEVNULL,
+                stderr=subprocess.DEVNULL,
+            )
             time.sleep(self.draw.uniform(0, 0.02))
         node.end()
         self.kills += 1
@@ -126,7 +131,11 @@ def attest(nodes, *words):
     """What attest.py says of these nodes: its status and its text."""
     logs = [word for node in nodes for word in ("--handlers", node.log_of_handler) if os.path.exists(node.log_of_handler)]
     snapshots = [word for node in nodes for word in ("--snapshot", f"{node.name}={node.snapshot}")]
-    result = subprocess.run([sys.executable, ATTEST, "--program", checks.PROGRAM, *[node.record for node in nodes], *logs, *snapshots, *words], capture_output=True, text=True)
+    result = subprocess.run(
+        [sys.executable, ATTEST, "--program", checks.PROGRAM, *[node.record for node in nodes], *logs, *snapshots, *words],
+        capture_output=True,
+        text=True,
+    )
     return result.returncode, result.stdout + result.stderr
 
 
@@ -154,12 +163,20 @@ def check_lost_line(count, cluster, keeps, kind):
     with open(node.snapshot, "wb") as file:
         file.write(b"".join(lines[:last] + lines[last + 1 :]))
     status, output = attest([node])
-    count.check(f"a snapshot without {lines[last]!r}", status == 1 and f"the snapshot of {node.name} lost what was flushed" in output and node.snapshot in output, output)
+    count.check(
+        f"a snapshot without {lines[last]!r}",
+        status == 1 and f"the snapshot of {node.name} lost what was flushed" in output and node.snapshot in output,
+        output,
+    )
     node.start()
     until(lambda: lives(node) > 0)
     node.end()
     status, output = attest([node])
-    count.check(f"a life without {lines[last]!r}", status == 1 and f"the snapshot of {node.name} lost what was flushed before the life" in output and node.record in output, output)
+    count.check(
+        f"a life without {lines[last]!r}",
+        status == 1 and f"the snapshot of {node.name} lost what was flushed before the life" in output and node.record in output,
+        output,
+    )
 
 
 def check_doubled_run(count, cluster):

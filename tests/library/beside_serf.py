@@ -9,8 +9,8 @@ node of ours sends and receives by UDP is lost, repeated or late. Events are fir
 by SIGKILL and started again on its file. If there is a built program (or --judge), `serf-replay judge` reads the log of everything
 that was handed out on ours, with their files.
 
-Go, memberlist and Debian's package `serf` have to be installed (`tools/packages`); otherwise the script prints what is missing, and checks nothing.
---library names another static library than that of crates/serf_agent_c, which is built otherwise; --over-ci builds it over
+Go, memberlist and Debian's package `serf` have to be installed (`tools/packages`); otherwise the script prints what is missing, and
+checks nothing. --library names another static library than that of crates/serf_agent_c, which is built otherwise; --over-ci builds it over
 what `rt ci` left, as the gate does. `tests/by_hand/beside_serf_long.py` runs this with twelve nodes, for longer.
 """
 
@@ -101,7 +101,9 @@ class Ours:
 
     def __init__(self, folder, program, number, net):
         self.name, self.addr, self.process = f"ours{number}", f"{net}.{number}", None
-        self.snapshot, self.events, self.log, self.faults = (os.path.join(folder, f"{self.name}.{end}") for end in ("snapshot", "events", "log", "faults"))
+        self.snapshot, self.events, self.log, self.faults = (
+            os.path.join(folder, f"{self.name}.{end}") for end in ("snapshot", "events", "log", "faults")
+        )
         self.words = [program, "-name", self.name, "-bind", self.addr, "-snapshot", self.snapshot, "-log", self.events]
         self.tags, self.others = {"kind": "ours", "node": self.name}, []
         self.put_faults()
@@ -216,7 +218,9 @@ def see(count, nodes, what, name, status, tags=None):
     stock = [node for node in nodes if not node.is_ours]
 
     def holds():
-        return all(node.seen().get(name, ("", None)) in ((status, tags),) if tags else node.seen().get(name, ("",))[0] == status for node in stock)
+        return all(
+            node.seen().get(name, ("", None)) in ((status, tags),) if tags else node.seen().get(name, ("",))[0] == status for node in stock
+        )
 
     count.check(f"stock shows {name} {what}", until(holds, SEEN), [node.seen().get(name) for node in stock])
 
@@ -332,8 +336,10 @@ def torn(count, nodes, asked_, folder):
             found = due & {line.split()[-1] for line in counts}
             print(f"{node.name}: {len(found)} ran of {len(due)} that it was up for")
             count.check(f"most events ran on {node.name}", 100 * len(found) >= MIN_RAN * len(due), f"{len(found)} of {len(due)}")
-    print(f"{len(torment.fired)} events, {torment.refused} refused; stock: {torment.count(False)} kills, {told[False, 'twice']} repeats, {told[False, 'once']} ran; "
-          f"ours: {torment.count(True)} kills, {told[True, 'twice']} repeats, {told[True, 'once']} ran")
+    print(
+        f"{len(torment.fired)} events, {torment.refused} refused; stock: {torment.count(False)} kills, {told[False, 'twice']} repeats, {told[False, 'once']} ran; "
+        f"ours: {torment.count(True)} kills, {told[True, 'twice']} repeats, {told[True, 'once']} ran"
+    )
     judge = asked_.judge or checks.PROGRAM
     if not os.path.exists(judge):
         print(f"not run: the judge, since {judge} isn't built")

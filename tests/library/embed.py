@@ -197,7 +197,9 @@ def in_c(count, places):
     if driver:
         starved.try_calls(count, "C", places, [driver])
     source = os.path.join(SOURCES, "burst_driver.c")
-    plain, hungry = compile_c(count, places, "burst_driver", source), compile_c(count, places, "starved_bursts", source, library=places.starved)
+    plain, hungry = compile_c(count, places, "burst_driver", source), compile_c(
+        count, places, "starved_bursts", source, library=places.starved
+    )
     if plain and hungry:
         bursts.try_bursts(count, "C", places, [plain])
         bursts.try_starved(count, "C", places, [hungry])
@@ -380,7 +382,11 @@ def in_pipe(count, places, program):
         # (a row can be a schedule that is refused, or one without agents or actions)
         count.check(
             f"conform on {name}",
-            status == 0 or "bad line" in report or "too long" in report or report.endswith("no call but open was compared\n") and "wanted" not in report,
+            status == 0
+            or "bad line" in report
+            or "too long" in report
+            or report.endswith("no call but open was compared\n")
+            and "wanted" not in report,
             f"{status}: {report[-600:]}",
         )
     for kind in checks.KINDS:

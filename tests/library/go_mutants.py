@@ -1,5 +1,5 @@
-"""Wrong bodies of the code in Go: the packages `serf`, `guard` and `serfagent` of `bindings/go`, and the agent. Each of them makes a test fail
-that it names.
+"""Wrong bodies of the code in Go: the packages `serf`, `guard` and `serfagent` of `bindings/go`, and the agent. Each of them makes a
+test fail that it names.
 
     tests/library/go_mutants.py [NAME..] [--all] [--list] [--library FILE] [--over-ci]
 
@@ -9,11 +9,11 @@ that has to fail, and there may be several. A line `slow: WHY` says why such a t
 All wrong bodies are planted into one copy of the sources (go_mutants/planting.py), so that each package with its tests is compiled once.
 The named tests have to pass if none of the wrong bodies is on, and one of those that a wrong body names has to fail if it is on.
 
-Without words the script tries {SHARE} in 100 of those that aren't slow, which the commit's hash selects, as the gate does. --all tries all, and
-names try only those. Every run checks that each wrong body can be planted. --list prints the names, each with what it does.
+Without words the script tries {SHARE} in 100 of those that aren't slow, which the commit's hash selects, as the gate does. --all tries
+all, and names try only those. Every run checks that each wrong body can be planted. --list prints the names, each with what it does.
 
-Go and Debian's packages of memberlist, go-msgpack and Serf's coordinates have to be installed. --library names another static library than that
-of crates/serf_agent_c, which is built otherwise; --over-ci builds it over what `rt ci` left, as the gate does.
+Go and Debian's packages of memberlist, go-msgpack and Serf's coordinates have to be installed. --library names another static library
+than that of crates/serf_agent_c, which is built otherwise; --over-ci builds it over what `rt ci` left, as the gate does.
 """
 
 import argparse

@@ -4,10 +4,11 @@ conformance/python, which was written from docs/SPEC.md alone.
     tests/library/handler_lines.py [--library FILE] [--over-ci] [--seeds FIRST-LAST]
 
 Both read the same texts, and have to report the same open events, in the same order, with whether each has begun, or that the text says
-nothing of handlers. The texts are those of hosts that keep a list of their open events, which both have to report then, with compactions
-in between; the same texts with lines that are doubled, dropped, moved, or taken from another text; lines in a random order, for events that were
-never handed out, with words that no line has; texts without a line `#done TIME`, as Serf leaves them; each of these cut at any byte, sealed,
-and continued; and the files of real agents, which seal what a kill left. Both write the same lines. tests/library/handler_lines has the texts.
+nothing of handlers. The texts are those of hosts that keep a list of their open events, which both have to report then, with
+compactions in between; the same texts with lines that are doubled, dropped, moved, or taken from another text; lines in a random order,
+for events that were never handed out, with words that no line has; texts without a line `#done TIME`, as Serf leaves them; each of
+these cut at any byte, sealed, and continued; and the files of real agents, which seal what a kill left. Both write the same lines.
+tests/library/handler_lines has the texts.
 
 Then errors are planted into the second reader, by its switches, and into a copy of the binding, and each has to be found.
 --library and --over-ci are those of tests/library/embed.py.
@@ -39,7 +40,10 @@ MINIMUMS = {
 # Errors that are planted into a copy of the binding: what is replaced by what in its handlers.py.
 PLANTED = {
     "an event that began is reported as one that waits": ("bytes(payload), c_event.begun)", "bytes(payload), False)"),
-    "name and payload trade places": ("OpenEvent(c_event.time, bytes(name), bytes(payload)", "OpenEvent(c_event.time, bytes(payload), bytes(name)"),
+    "name and payload trade places": (
+        "OpenEvent(c_event.time, bytes(name), bytes(payload)",
+        "OpenEvent(c_event.time, bytes(payload), bytes(name)",
+    ),
     "a text with nothing open says nothing": ("if not summary.tracked:", "if not summary.events:"),
     "the first open event is left out": ("for c_event in c_events:", "for c_event in list(c_events)[1:]:"),
 }

@@ -19,9 +19,9 @@ missed an event, the cause is one of these, by the node's files as its kills lef
 The script fails if an event ran twice on a node, or if a node missed one event in a thousand or more. With --without the files keep
 no events: then missed events are only reported. `tests/by_hand/kept_cluster_long.py` runs both for longer.
 
-Go and the sources of memberlist and of Serf have to be installed (`tools/packages`); otherwise the script prints what is missing, and checks nothing.
---library names another static library than that of crates/serf_agent_c, which is built otherwise; --over-ci builds it over what
-`rt ci` left, as the gate does.
+Go and the sources of memberlist and of Serf have to be installed (`tools/packages`); otherwise the script prints what is missing, and
+checks nothing. --library names another static library than that of crates/serf_agent_c, which is built otherwise; --over-ci builds it
+over what `rt ci` left, as the gate does.
 """
 
 import argparse

@@ -59,7 +59,18 @@ STRANGE = [
 LIMIT = 100
 
 # The minimum number of times that each of these has to occur in all seeds together.
-MINIMUMS = {"new": 300, "Seen": 100, "BelowMinimum": 100, "TooOld": 20, "TimeFull": 20, "compacted": 50, "restarted": 100, "torn": 30, "merged": 100, "worth": 100}
+MINIMUMS = {
+    "new": 300,
+    "Seen": 100,
+    "BelowMinimum": 100,
+    "TooOld": 20,
+    "TimeFull": 20,
+    "compacted": 50,
+    "restarted": 100,
+    "torn": 30,
+    "merged": 100,
+    "worth": 100,
+}
 
 
 def words_of(name):
@@ -92,7 +103,12 @@ class Library:
     def dump_state(self):
         clocks = self.agent.clocks()
         minimum = clocks.event_minimum, clocks.query_minimum
-        return (clocks.member, clocks.event, clocks.query, *minimum), self.text(), self.agent.local_state(), self.agent.should_compact(LIMIT)
+        return (
+            (clocks.member, clocks.event, clocks.query, *minimum),
+            self.text(),
+            self.agent.local_state(),
+            self.agent.should_compact(LIMIT),
+        )
 
     def call(self, name, *words):
         try:

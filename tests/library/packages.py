@@ -22,7 +22,6 @@ import time
 sys.dont_write_bytecode = True
 sys.path.insert(0, os.path.dirname(os.path.dirname(os.path.abspath(__file__))))
 import checks
-import pages
 from checks import TOP
 import c_library
 import manual_of_header
@@ -31,17 +30,19 @@ import rust_of_header
 HERE = os.path.join(TOP, "tests", "library", "packages")
 sys.path.insert(0, HERE)
 import host_lines
+from in_go import in_go
 from in_rust import in_rust
 from in_source import in_source
-from users import AS_USER, ELSEWHERE, OFF_LINE, NotRun, as_shown, by_user, env_of, write_given, refused, well, write
+from users import AS_USER, ELSEWHERE, OFF_LINE, NotRun, as_shown, by_user, write_given, refused, well, write
 
 BINDINGS = os.path.join(TOP, "bindings")
 
 # Copies of files in the bindings' own folders, and the originals.
-COPIES = {"go/serfagent/serf_agent.h": "../include/serf_agent.h", "go/serfagent/serf_agent_heap.c": "c/serf_agent_heap.c", "rust/LICENSE": "../LICENSE", "rust/sys/LICENSE": "../LICENSE", "python/LICENSE": "../LICENSE", **{f"go/{module}LICENSE": "../LICENSE" for module in ("", "guard/", "serf/", "serfagent/", "beside_serf/")}}
-
-# The folder of Debian's Go packages.
-GO_CODE = "/usr/share/gocode"
+COPIES = {
+    "go/serfagent/serf_agent.h": "../include/serf_agent.h", "go/serfagent/serf_agent_heap.c": "c/serf_agent_heap.c",
+    "rust/LICENSE": "../LICENSE", "rust/sys/LICENSE": "../LICENSE", "python/LICENSE": "../LICENSE",
+    **{f"go/{module}LICENSE": "../LICENSE" for module in ("", "guard/", "serf/", "serfagent/", "beside_serf/")},
+}
 
 
 class NoAgent:
@@ -120,11 +121,19 @@ def foreign(path, to):
 def files(count, archive):
     """Copies are the same as their originals, the manual page is the header's, and all have one version."""
     for copy, of in COPIES.items():
-        count.check(f"bindings/{copy} is a copy of bindings/{of}", filecmp.cmp(os.path.join(BINDINGS, copy), os.path.join(BINDINGS, of), shallow=False))
+        count.check(
+            f"bindings/{copy} is a copy of bindings/{of}",
+            filecmp.cmp(os.path.join(BINDINGS, copy), os.path.join(BINDINGS, of), shallow=False),
+        )
     count.check("docs/serf_agent.3 is the header's: tools/manual_of_header.py writes it", manual_of_header.main(["--check"]) == 0)
-    count.check("the declarations of serf-agent-sys are the header's: tools/rust_of_header.py writes them", rust_of_header.main(["--check"]) == 0)
+    count.check(
+        "the declarations of serf-agent-sys are the header's: tools/rust_of_header.py writes them", rust_of_header.main(["--check"]) == 0
+    )
     if shutil.which("groff"):
-        well(count, "groff reads the page", c_library.ran(["bash", "-c", f"groff -man -Tutf8 -ww {TOP}/docs/serf_agent.3 2>&1 >/dev/null"]), "")
+        well(
+            count, "groff reads the page", c_library.ran(["bash", "-c", f"groff -man -Tutf8 -ww {TOP}/docs/serf_agent.3 2>&1 >/dev/null"]),
+            "",
+        )
     else:
         print("not run: groff on docs/serf_agent.3, since it is not on PATH")
 
@@ -138,8 +147,12 @@ def in_c(count, archive):
         return
     shared = os.path.join(prefix, "lib", "libserf_agent.so")
     exported = re.findall(r" T (\w+)$", c_library.ran(["nm", "-D", "--defined-only", shared])[1], re.M)
-    count.check("it exports only the agent's calls", len(exported) > 30 and all(name.startswith("serf_agent_") for name in exported), exported)
-    held = re.findall(r" [A-Z] (\w+)$", c_library.ran(["nm", "-g", "--defined-only", os.path.join(prefix, "lib", "libserf_agent.a")])[1], re.M)
+    count.check(
+        "it exports only the agent's calls", len(exported) > 30 and all(name.startswith("serf_agent_") for name in exported), exported
+    )
+    held = re.findall(
+        r" [A-Z] (\w+)$", c_library.ran(["nm", "-g", "--defined-only", os.path.join(prefix, "lib", "libserf_agent.a")])[1], re.M
+    )
     count.check("so does the static library", sorted(held) == sorted(exported), held)
     number = re.search(r"^#define SERF_AGENT_VERSION (\d+)$", checks.text_of("include/serf_agent.h"), re.M)[1]
     count.check("its SONAME", f"libserf_agent.so.{number}\n" in c_library.ran(["objdump", "-p", shared])[1])
@@ -159,7 +172,10 @@ def in_c(count, archive):
     refused(count, "no compiler", by_user(home, *make, "CC=none"), "there is no C compiler none on PATH")
     refused(count, "no library", by_user(home, *make, "LIBRARY=/none"), "the agent's library isn't there")
     refused(count, "a folder that can't be written", by_user(home, *make, "install", "PREFIX=/proc/none"), "/proc/none can't be written")
-    refused(count, "another machine", by_user(home, *ELSEWHERE, *make, "install", f"PREFIX={prefix}"), "for Linux on x86_64, but this system is Linux i686")
+    refused(
+        count, "another machine", by_user(home, *ELSEWHERE, *make, "install", f"PREFIX={prefix}"),
+        "for Linux on x86_64, but this system is Linux i686",
+    )
 
 
 def by_tools(count, archive, home, prefix, source):
@@ -168,7 +184,9 @@ def by_tools(count, archive, home, prefix, source):
     if shutil.which("pkg-config"):
         line = f"cc -o by_pkg_config {source} $(pkg-config --cflags --libs serf_agent)"
         if well(count, "a host by pkg-config", by_user(home, "sh", "-ec", line, **found), ""):
-            well(count, "the example by pkg-config", by_user(home, "./by_pkg_config", archive.home_of(home, "pkg"), **found), archive.example)
+            well(
+                count, "the example by pkg-config", by_user(home, "./by_pkg_config", archive.home_of(home, "pkg"), **found), archive.example
+            )
     else:
         print("not run: pkg-config, which is not on PATH")
     if not shutil.which("cmake"):
@@ -178,7 +196,10 @@ def by_tools(count, archive, home, prefix, source):
     words = ["cmake", "-S", ".", "-B", "build", f"-DCMAKE_PREFIX_PATH={prefix}", f"-DSOURCE={source}"]
     if well(count, "CMake finds it", by_user(home, *words)) and well(count, "CMake builds", by_user(home, "cmake", "--build", "build")):
         for name in ("shared", "static"):
-            well(count, f"the example by CMake, {name}", by_user(home, f"build/{name}", archive.home_of(home, f"cmake_{name}")), archive.example)
+            well(
+                count, f"the example by CMake, {name}", by_user(home, f"build/{name}", archive.home_of(home, f"cmake_{name}")),
+                archive.example,
+            )
 
 
 def in_python(count, archive):
@@ -200,30 +221,63 @@ def in_python(count, archive):
     said = by_user(home, python, os.path.join(HERE, "typed.py"))
     well(count, "every method is typed, and the version is the package's", said, "")
     built = archive.home_of(home, "wheels")
-    well(count, "pip builds the wheel", by_user(home, python, "-m", "pip", "wheel", "--no-index", "-w", built, archive.path("bindings", "python")))
+    well(
+        count, "pip builds the wheel",
+        by_user(home, python, "-m", "pip", "wheel", "--no-index", "-w", built, archive.path("bindings", "python")),
+    )
     wheels = glob.glob(os.path.join(built, "*.whl"))
     count.check("it is the archive's, byte by byte", len(wheels) == 1 and filecmp.cmp(wheels[0], archive.wheel, shallow=False), wheels)
     described(count, home, python)
-    refused(count, "no library in Python", by_user(home, python, "-m", "serf_agent", SERF_AGENT_LIBRARY="/none"), "^serf_agent: the library can't be loaded: /none: ")
-    refused(count, "a folder that isn't there", by_user(home, python, "-m", "serf_agent", "/none"), "^/none/alpha.snapshot: No such file or directory$")
-    refused(count, "another machine in Python", by_user(home, *ELSEWHERE, python, "-m", "serf_agent"), "^serf_agent: the library is for Linux on x86-64 or aarch64, and this system is Linux on i686: install it in a machine or a container of that kind$")
+    refused(
+        count, "no library in Python", by_user(home, python, "-m", "serf_agent", SERF_AGENT_LIBRARY="/none"),
+        "^serf_agent: the library can't be loaded: /none: ",
+    )
+    refused(
+        count, "a folder that isn't there", by_user(home, python, "-m", "serf_agent", "/none"),
+        "^/none/alpha.snapshot: No such file or directory$",
+    )
+    refused(
+        count, "another machine in Python", by_user(home, *ELSEWHERE, python, "-m", "serf_agent"),
+        "^serf_agent: the library is for Linux on x86-64 or aarch64, and this system is Linux on i686: install it in a machine or a container of that kind$",
+    )
     old = aged(archive.path("lib", "libserf_agent.so"), os.path.join(home, "libserf_agent.so"))
-    refused(count, "an old C library in Python", by_user(home, python, "-m", "serf_agent", SERF_AGENT_LIBRARY=old), "is older than the one that it was linked with: install the source package, ")
+    refused(
+        count, "an old C library in Python", by_user(home, python, "-m", "serf_agent", SERF_AGENT_LIBRARY=old),
+        "is older than the one that it was linked with: install the source package, ",
+    )
     other = foreign(archive.path("lib", "libserf_agent.so"), os.path.join(home, "foreign.so"))
-    refused(count, "another processor's library in Python", by_user(home, python, "-m", "serf_agent", SERF_AGENT_LIBRARY=other), r"; it is for \w+, and this processor is \w+: install the wheel that ends with _\w+\.whl$")
+    refused(
+        count, "another processor's library in Python", by_user(home, python, "-m", "serf_agent", SERF_AGENT_LIBRARY=other),
+        r"; it is for \w+, and this processor is \w+: install the wheel that ends with _\w+\.whl$",
+    )
     builder = [python, archive.path("bindings", "python", "build_wheel.py"), home]
     well(count, "a wheel for a newer C library", by_user(home, *builder, SERF_AGENT_LIBRARY=old))
     (new,) = glob.glob(os.path.join(home, "*manylinux_2_99*.whl"))
-    refused(count, "pip on an old C library", by_user(home, python, "-m", "pip", "install", "--no-index", new), "is not a supported wheel on this platform")
-    refused(count, "a wheel without a library", by_user(home, *builder, SERF_AGENT_LIBRARY="/none"), "^serf_agent: there is no shared library at /none")
-    refused(count, "a wheel of another machine", by_user(home, *builder, SERF_AGENT_LIBRARY=archive.path("README.md")), "is no shared library for Linux on x86-64 or aarch64")
+    refused(
+        count, "pip on an old C library", by_user(home, python, "-m", "pip", "install", "--no-index", new),
+        "is not a supported wheel on this platform",
+    )
+    refused(
+        count, "a wheel without a library", by_user(home, *builder, SERF_AGENT_LIBRARY="/none"),
+        "^serf_agent: there is no shared library at /none",
+    )
+    refused(
+        count, "a wheel of another machine", by_user(home, *builder, SERF_AGENT_LIBRARY=archive.path("README.md")),
+        "is no shared library for Linux on x86-64 or aarch64",
+    )
     from_sources(count, archive, home)
 
 
 def described(count, home, python):
     """What the installed wheel has about itself."""
-    said = by_user(home, python, "-c", "import importlib.metadata as m; d = m.distribution('serf_agent'); print(d.metadata); print(d.read_text('LICENSE'))")[1]
-    wanted = ("Classifier: Typing :: Typed\n", "Classifier: License :: OSI Approved :: Apache Software License\n", "License-File: LICENSE\n", "Project-URL: Repository, https://", "Apache License\n")
+    said = by_user(
+        home, python, "-c",
+        "import importlib.metadata as m; d = m.distribution('serf_agent'); print(d.metadata); print(d.read_text('LICENSE'))",
+    )[1]
+    wanted = (
+        "Classifier: Typing :: Typed\n", "Classifier: License :: OSI Approved :: Apache Software License\n", "License-File: LICENSE\n",
+        "Project-URL: Repository, https://", "Apache License\n",
+    )
     count.check("the wheel has its classifiers and its licence", all(word in said for word in wanted), said[:1500])
 
 
@@ -233,111 +287,30 @@ def from_sources(count, archive, home):
     if not well(count, "another environment", by_user(home, os.path.realpath(sys.executable), "-m", "venv", "built")):
         return
     install = [python, "-m", "pip", "install", "--no-index", archive.sdist]
-    refused(count, "the source package without a compiler", by_user(home, *install, CC="none"), "serf_agent: there is no C compiler none on PATH: install one")
-    refused(count, "the source package on another machine", by_user(home, *ELSEWHERE, *install), "serf_agent: the library is for Linux on x86-64 or aarch64, and this system is Linux on i686")
+    refused(
+        count, "the source package without a compiler", by_user(home, *install, CC="none"),
+        "serf_agent: there is no C compiler none on PATH: install one",
+    )
+    refused(
+        count, "the source package on another machine", by_user(home, *ELSEWHERE, *install),
+        "serf_agent: the library is for Linux on x86-64 or aarch64, and this system is Linux on i686",
+    )
     if well(count, "pip installs the source package", by_user(home, *install)):
-        well(count, "the example over it", by_user(home, python, "-m", "serf_agent", archive.home_of(home, "from_sources")), archive.example)
+        well(
+            count, "the example over it", by_user(home, python, "-m", "serf_agent", archive.home_of(home, "from_sources")), archive.example
+        )
     unpacked = archive.home_of(home, "unpacked")
     by_user(unpacked, "tar", "xzf", archive.sdist, "--strip-components=1")
     again = by_user(unpacked, python, "build_wheel.py", "--sdist", home)
     well(count, "a source package makes itself again", again)
-    count.check("it is the same, byte by byte", filecmp.cmp(archive.sdist, os.path.join(home, os.path.basename(archive.sdist)), shallow=False))
+    count.check(
+        "it is the same, byte by byte", filecmp.cmp(archive.sdist, os.path.join(home, os.path.basename(archive.sdist)), shallow=False)
+    )
     by_user(unpacked, "rm", "native/libserf_agent_c.a")
-    refused(count, "a source package without the library", by_user(unpacked, python, "build_wheel.py", "--sdist", home), "^serf_agent: there is no libserf_agent_c.a at ")
-
-
-def in_go(count, archive):
-    """The module serfagent is complete by itself: from the archive, from a vendor folder, and under another path; and a node over the
-    package serf."""
-    if shutil.which("go") is None:
-        raise NotRun("go is not on PATH")
-    home = archive.home()
-    more = {"GOFLAGS": "-mod=mod", "GOPROXY": "off", "GOCACHE": os.path.join(archive.root, "cache"), "GOPATH": os.path.join(home, "gopath"), "home": home}
-    module, programs = archive.path("bindings", "go", "serfagent"), archive.path("bindings", "go")
-    own = archive.home_of(home, "app")
-    shutil.copy(os.path.join(programs, "example", "main.go"), own)
-    edit = ["-require=kitchenrue.example/serfagent@v0.0.0", f"-replace=kitchenrue.example/serfagent={module}"]
-    by_user(own, "go", "mod", "init", "app.example/app", **more)
-    by_user(own, "go", "mod", "edit", *edit, **more)
-    well(count, "the example in Go", by_user(own, "go", "run", ".", archive.home_of(home, "kept"), **more), archive.example)
-    well(count, "go mod vendor", by_user(own, "go", "mod", "vendor", **more))
-    well(count, "it links from the vendor folder", by_user(own, "go", "build", "-mod=vendor", "-o", "vendored", ".", **more), "")
-    vet = {**more, "GOFLAGS": "-mod=readonly"}
-    for folder in (module, programs):
-        well(count, f"go vet of {os.path.basename(folder)}, without memberlist", by_user(folder, "go", "vet", "./...", **vet, **c_library.LEAN_GO), "")
-    for shown in as_shown("go"):
-        line = shown.text.replace("FOLDER", archive.home_of(home, "shown"))
-        well(count, shown.name(), by_user(programs, "sh", "-ec", line, **vet), archive.example)
-    # (a fork changes one line, and everything next to the module still builds)
-    fork = archive.copy(home, "bindings", "go")
-    line = os.path.join(fork, "serfagent", "go.mod")
-    by_user(fork, "sed", "-i", "1s,.*,module forge.example/fork/serfagent,", line, **more)
-    well(count, "a fork's module under its own path", by_user(os.path.dirname(line), "go", "build", ".", **more), "")
-    well(count, "a fork's programs", by_user(fork, "go", "build", "-o", f"{home}/", "./example", **more), "")
-    by_user(own, "go", "mod", "edit", "-dropreplace=kitchenrue.example/serfagent", "-droprequire=kitchenrue.example/serfagent", **more)
-    by_user(own, "go", "mod", "edit", "-require=forge.example/fork/serfagent@v0.0.0", f"-replace=forge.example/fork/serfagent={os.path.dirname(line)}", **more)
-    by_user(own, "sed", "-i", "s,kitchenrue.example,forge.example/fork,", "main.go", **more)
-    well(count, "a user of the fork", by_user(own, "go", "build", "-o", "forked", ".", **more), "")
-    refused(count, "without cgo", by_user(module, "go", "build", ".", **{**more, "CGO_ENABLED": "0"}), "serfagent_is_for_Linux_on_x86_64_or_aarch64_and_needs_cgo_with_a_C_compiler")
-    for system in ({"GOARCH": "arm64"}, {"GOOS": "darwin"}):
-        status, output = by_user(module, "go", "build", ".", **{**more, "CGO_ENABLED": "0", **system})
-        count.check(f"refused with one line: {system}", status != 0 and output.count(".go:") == 1 and "serfagent_is_for_Linux" in output, (status, output))
-    node_in_go(count, archive, home)
-
-
-def node_in_go(count, archive, home):
-    """docs/GO.md: its program, built by its lines over the archive and Debian's packages, and run twice on one file. Its address
-    belongs to this run."""
-    needed = os.path.join(GO_CODE, "src", "github.com", "hashicorp", "serf", "coordinate")
-    if not os.path.isdir(needed):
-        print(f"not run: the program of docs/GO.md, since {needed} is missing")
-        return
-    blocks = {text.split()[0]: text for _, text in reversed(list(pages.blocks("docs/GO.md")))}
-    own = archive.home_of(home, "node")
-    by_user(own, "ln", "-s", archive.top, re.search(r"\$PWD/([^/\s]+)/bindings/go", blocks["mkdir"])[1])
-    write_given(own, "main.go", blocks["package"].replace("127.0.0.1", f"127.{os.getpid() >> 8 & 127 | 128}.{os.getpid() & 255}.9"))
-    answer = by_user(own, "sh", "-ec", blocks["mkdir"], home=home, GOCACHE=os.path.join(archive.root, "cache"), **c_library.LEAN_GO)
-    if not well(count, "the lines of docs/GO.md build its program", answer, ""):
-        return
-    for at in (1, 2):
-        # (without a network, there is no loopback address either)
-        status, output = c_library.ran([*AS_USER[len(OFF_LINE) :], "timeout", "300", os.path.join(own, "web1")], cwd=own, env=env_of(home))
-        count.check(f"it is handed its event at {at}", status == 0 and f"handled deploy v1 at {at}\n" in output, f"{status}: {output[-1500:]}")
-    drop_in(count, archive, home, blocks["package"])
-
-
-# A program that uses two packages of Serf's module.
-TWO_PACKAGES = """package main
-
-import (
-	"fmt"
-
-	"github.com/hashicorp/serf/client"
-	"github.com/hashicorp/serf/serf"
-)
-
-func main() {
-	_ = client.Config{}
-	fmt.Println(serf.Waiting)
-}
-"""
-
-
-def drop_in(count, archive, home, page):
-    """bindings/go/drop_in makes a folder that replaces Serf's module: a program that imports Serf's paths is built over this package."""
-    path = os.path.join("src", "github.com", "hashicorp", "serf")
-    script, serf, top = archive.path("bindings", "go", "drop_in"), os.path.join(GO_CODE, path), archive.home_of(home, "drop_in")
-    folder = os.path.join(top, path)
-    by_user(top, "mkdir", "-p", os.path.dirname(folder))
-    if not well(count, "drop_in makes the folder", by_user(top, script, serf, folder), ""):
-        return
-    refused(count, "a folder that exists", by_user(top, script, serf, folder), "^drop_in: .* exists already$")
-    refused(count, "a folder without Serf's sources", by_user(top, script, home, os.path.join(top, "none")), "^drop_in: .*/client is missing")
-    env = {"GO111MODULE": "off", "GOPATH": f"{top}:{GO_CODE}", "GOCACHE": os.path.join(archive.root, "cache"), "home": home, **c_library.LEAN_GO}
-    write_given(top, "main.go", TWO_PACKAGES)
-    well(count, "a program over that folder", by_user(top, "go", "run", "main.go", **env), "4096\n")
-    write_given(top, "main.go", page.replace('"kitchenrue.example/serf"', '"github.com/hashicorp/serf/serf"'))
-    well(count, "the program of docs/GO.md over that folder", by_user(top, "go", "build", "-o", "web1", "main.go", **env), "")
+    refused(
+        count, "a source package without the library", by_user(unpacked, python, "build_wheel.py", "--sdist", home),
+        "^serf_agent: there is no libserf_agent_c.a at ",
+    )
 
 
 def installed(count, archive):
@@ -346,22 +319,42 @@ def installed(count, archive):
     prefix = os.path.join(home, "local")
     answer = by_user(home, archive.path("install"), prefix)
     well(count, "install", answer)
-    places = ["bin/serf-replay", "share/man/man1/serf-replay.1", "share/man/man3/serf_agent.3", "share/bash-completion/completions/serf-replay"]
-    places += ["share/zsh/site-functions/_serf-replay", "share/fish/vendor_completions.d/serf-replay.fish", "include/serf_agent.h", "lib/libserf_agent.so"]
+    places = [
+        "bin/serf-replay", "share/man/man1/serf-replay.1", "share/man/man3/serf_agent.3", "share/bash-completion/completions/serf-replay",
+    ]
+    places += [
+        "share/zsh/site-functions/_serf-replay", "share/fish/vendor_completions.d/serf-replay.fish", "include/serf_agent.h",
+        "lib/libserf_agent.so",
+    ]
     for path in places:
         count.check(f"install: {path}", os.path.isfile(os.path.join(prefix, path)))
     schedule, trace = (archive.path("examples", f"deploy_gossiped_twice.{ending}") for ending in ("schedule", "trace"))
     with open(trace, encoding="utf-8") as file:
-        well(count, "the program that was installed", by_user(home, os.path.join(prefix, "bin", "serf-replay"), "replay", schedule), file.read())
-    refused(count, "an installation on another machine", by_user(home, *ELSEWHERE, archive.path("install"), prefix), '^install: the program is for Linux on x86-64, but this system is Linux i686; docs/START.md, "On aarch64", says what runs there$')
-    refused(count, "an installation into a folder that nobody may write", by_user(home, archive.path("install"), "/proc/none"), "^install: /proc/none can't be written; name another folder$")
+        well(
+            count, "the program that was installed", by_user(home, os.path.join(prefix, "bin", "serf-replay"), "replay", schedule),
+            file.read(),
+        )
+    refused(
+        count, "an installation on another machine", by_user(home, *ELSEWHERE, archive.path("install"), prefix),
+        '^install: the program is for Linux on x86-64, but this system is Linux i686; docs/START.md, "On aarch64", says what runs there$',
+    )
+    refused(
+        count, "an installation into a folder that nobody may write", by_user(home, archive.path("install"), "/proc/none"),
+        "^install: /proc/none can't be written; name another folder$",
+    )
     refused(count, "an installation without a folder", by_user(home, archive.path("install")), r"^usage: \./install PREFIX")
-    refused(count, "an installation of a clone", by_user(home, os.path.join(TOP, "install"), prefix) if os.access(TOP, os.X_OK) else (1, ""), "^install: this folder isn't a release")
+    refused(
+        count, "an installation of a clone", by_user(home, os.path.join(TOP, "install"), prefix) if os.access(TOP, os.X_OK) else (1, ""),
+        "^install: this folder isn't a release",
+    )
     without_make(count, archive, home)
     copy = archive.copy(home, "install")
     os.makedirs(os.path.join(home, "bin"))
     aged_program(archive, os.path.join(home, "bin", "serf-replay"))
-    refused(count, "a program on an old C library", by_user(home, "sh", copy, prefix), "^install: the C library of this system is older than the one that the program was linked with; install on Debian 12 or ")
+    refused(
+        count, "a program on an old C library", by_user(home, "sh", copy, prefix),
+        "^install: the C library of this system is older than the one that the program was linked with; install on Debian 12 or ",
+    )
 
 
 def without_make(count, archive, home):
@@ -380,7 +373,10 @@ def page(count, archive):
         parts = dict(re.findall(r"^## (.+?)\n(.*?)(?=^## |\Z)", file.read(), re.M | re.S))
     home = archive.home()
     name = re.search(r"(serf-replay-\S+)\.tar\.gz", parts["The archive"])[1]
-    by_user(home, "sh", "-ec", f"cp -r {archive.top} {name}; chmod -R u+w {name}; tar czf {name}.tar.gz {name}; sha256sum {name}.tar.gz >SHA256SUMS; rm -r {name}")
+    by_user(
+        home, "sh", "-ec",
+        f"cp -r {archive.top} {name}; chmod -R u+w {name}; tar czf {name}.tar.gz {name}; sha256sum {name}.tar.gz >SHA256SUMS; rm -r {name}",
+    )
     needs = {"Rust": "cargo", "Go": "go"}
     for title in [title for title, text in parts.items() if re.search(r"^ {4}", text, re.M)]:
         if title in needs and shutil.which(needs[title]) is None:
@@ -388,7 +384,10 @@ def page(count, archive):
             continue
         script = "".join(line[4:] + "\n" if line.startswith("    ") else "\n" for line in parts[title].split("\n"))
         wanted = re.findall(r"^[^#\n]*\S  # (.*)$", re.sub(r"<<'END'\n.*?^END$", "", script, flags=re.M | re.S), re.M)
-        more = {"PATH": f"{os.path.dirname(os.path.realpath(sys.executable))}:{os.environ['PATH']}", "GOFLAGS": "-mod=mod", "GOPROXY": "off", "GOCACHE": os.path.join(archive.root, "cache")}
+        more = {
+            "PATH": f"{os.path.dirname(os.path.realpath(sys.executable))}:{os.environ['PATH']}", "GOFLAGS": "-mod=mod", "GOPROXY": "off",
+            "GOCACHE": os.path.join(archive.root, "cache"),
+        }
         began = time.monotonic()
         status, output = by_user(home, "sh", "-ec", script, **more)
         at = -1
@@ -407,7 +406,9 @@ def aged_program(archive, to):
         write(to, "#!/bin/sh\necho \"serf-replay: version \\`GLIBC_2.99' not found\" >&2\nexit 1\n")
 
 
-PARTS = {"files": files, "c": in_c, "python": in_python, "rust": in_rust, "source": in_source, "go": in_go, "install": installed, "page": page}
+PARTS = {
+    "files": files, "c": in_c, "python": in_python, "rust": in_rust, "source": in_source, "go": in_go, "install": installed, "page": page,
+}
 
 
 def run(total, name, part, archive):

@@ -8,10 +8,10 @@
   passes with a stock agent passes with ours.
 - A program in Python reads the protocol by the package msgpack, with its defaults (`rpc_client/reader.py`).
 
-Go, memberlist, Debian's package `serf`, the sources of Serf's client and the Python package have to be installed, as
-`tools/packages` does; otherwise the script prints what is missing. Nothing of Serf's sources is kept here: they are linked into a folder of the
-run. --library names another static library than that of crates/serf_agent_c, which is built otherwise; --over-ci builds it over what
-`rt ci` left, as the gate does; --agent names a built agent.
+Go, memberlist, Debian's package `serf`, the sources of Serf's client and the Python package have to be installed, as `tools/packages`
+does; otherwise the script prints what is missing. Nothing of Serf's sources is kept here: they are linked into a folder of the run.
+--library names another static library than that of crates/serf_agent_c, which is built otherwise; --over-ci builds it over what `rt ci`
+left, as the gate does; --agent names a built agent.
 """
 
 import argparse
@@ -93,13 +93,33 @@ class Row:
 
 
 DIFFERENT = (
-    Row("stats, agent (program|handlers_(cut_off|failed|never_run|ok|still_running|timed_out|unfinished|waiting)|queries_waiting)|stats, serf (dropped(_far|_kept)?|events_(missing|open|waiting)|ignored_(below_minimum|time_full|too_old))", None, ".+", "ours reports more about itself"),
+    Row(
+        "stats, agent (program|handlers_(cut_off|failed|never_run|ok|still_running|timed_out|unfinished|waiting)|queries_waiting)|stats, serf (dropped(_far|_kept)?|events_(missing|open|waiting)|ignored_(below_minimum|time_full|too_old))",
+        None,
+        ".+",
+        "ours reports more about itself",
+    ),
     Row("members by a bad expression of a .*, error", "client closed", "Failed to compile regex: .*", "a stock agent ends the client"),
-    Row("answer that is too long, error", "failed to respond to key query: (response exceeds .*)", "response exceeds .*", "a stock agent calls each query one of keys"),
+    Row(
+        "answer that is too long, error",
+        "failed to respond to key query: (response exceeds .*)",
+        "response exceeds .*",
+        "a stock agent calls each query one of keys",
+    ),
     Row("second answer, error", ".*response already sent", "No pending queries matching ID", "ours forgets a query that was answered"),
     Row("second monitor of a client, error", "Monitor already exists", "<nil>", "ours allows more than one"),
-    Row("join of nobody, error", "(?s).*dial tcp NET.20:7946: connect: connection refused.*", "(?s).*dial tcp NET.1:0->NET.20:7946: connect: connection refused.*", "ours dials from the address at which it listens"),
-    Row("member-update is repeated, after the events of others", "true", "false", "a stock agent repeats a change of tags with each later event of a member"),
+    Row(
+        "join of nobody, error",
+        "(?s).*dial tcp NET.20:7946: connect: connection refused.*",
+        "(?s).*dial tcp NET.1:0->NET.20:7946: connect: connection refused.*",
+        "ours dials from the address at which it listens",
+    ),
+    Row(
+        "member-update is repeated, after the events of others",
+        "true",
+        "false",
+        "a stock agent repeats a change of tags with each later event of a member",
+    ),
 )
 
 
@@ -132,7 +152,11 @@ def built(folder):
         os.symlink(path, os.path.join(commands, os.path.basename(path)))
     env = c_library.go_env(os.path.dirname(source), kit.GOCODE)
     programs, tests = [os.path.join(folder, name) for name in ("driver", "tests", "commands")], ["test", "-c", "-vet=off"]
-    packages = ("kitchenrue.example/rpc_client/driver", "kitchenrue.example/rpc_client/agent", f"{SERF.removeprefix('src/')}/cmd/serf/command")
+    packages = (
+        "kitchenrue.example/rpc_client/driver",
+        "kitchenrue.example/rpc_client/agent",
+        f"{SERF.removeprefix('src/')}/cmd/serf/command",
+    )
     for words, program, of in zip((["build"], tests, tests), programs, packages):
         status, output = c_library.ran(["go", *words, "-p", "1", "-o", program, of], env=env)
         if status:

@@ -11,8 +11,9 @@ over it, killed under a flood.
   ends, and its log and the others say so.
 
 Nothing of Serf's sources is kept here: they are linked, or copied, into a folder of the run. Go and Debian's package
-golang-github-hashicorp-serf-dev have to be installed, as `tools/packages` does; otherwise the script prints what is missing. --library names another
-static library than that of crates/serf_agent_c, which is built otherwise; --over-ci builds it over what `rt ci` left, as the gate does.
+golang-github-hashicorp-serf-dev have to be installed, as `tools/packages` does; otherwise the script prints what is missing. --library
+names another static library than that of crates/serf_agent_c, which is built otherwise; --over-ci builds it over what `rt ci` left, as
+the gate does.
 """
 
 import argparse
@@ -262,7 +263,15 @@ class Node:
 
     def __init__(self, program, folder, name, net, number, *words):
         self.name, self.address, self.folder, self.process = name, f"{net}.{number}", folder, None
-        self.words = [program, "agent", f"-node={name}", f"-bind={self.address}", f"-rpc-addr={self.address}:7373", "-profile=local", *words]
+        self.words = [
+            program,
+            "agent",
+            f"-node={name}",
+            f"-bind={self.address}",
+            f"-rpc-addr={self.address}:7373",
+            "-profile=local",
+            *words,
+        ]
 
     def start(self, *more, **how):
         self.client = None
@@ -321,9 +330,13 @@ def check_kills(count, program, folder, net, kills):
     the last times, and sends them again."""
     ran, snapshot = os.path.join(folder, "ran"), os.path.join(folder, "snapshot")
     peer = Node(program, folder, "peer", net, 8, "-log-level=err").start()
-    node = Node(program, folder, "killed", net, 9, "-log-level=err", f"-snapshot={snapshot}", f"-event-handler=user:x=read -r n; echo $n >>{ran}")
+    node = Node(
+        program, folder, "killed", net, 9, "-log-level=err", f"-snapshot={snapshot}", f"-event-handler=user:x=read -r n; echo $n >>{ran}"
+    )
     node.start(f"-join={peer.address}")
-    count.check("cmd/serf over ours: its file names the other", until(lambda: "alive: peer " in checks.text_of(snapshot)), checks.text_of(snapshot))
+    count.check(
+        "cmd/serf over ours: its file names the other", until(lambda: "alive: peer " in checks.text_of(snapshot)), checks.text_of(snapshot)
+    )
     flood = Flood(peer)
     flood.start()
     for life in range(kills):
@@ -339,7 +352,9 @@ def check_kills(count, program, folder, net, kills):
     node.end()
     found = lines_of(ran)
     count.check("cmd/serf over ours, killed: handlers ran", len(found) > 5 * kills, (len(found), flood.fired))
-    count.check("cmd/serf over ours, killed: none ran twice", len(found) == len(set(found)), sorted(it for it in set(found) if found.count(it) > 1))
+    count.check(
+        "cmd/serf over ours, killed: none ran twice", len(found) == len(set(found)), sorted(it for it in set(found) if found.count(it) > 1)
+    )
     return peer
 
 

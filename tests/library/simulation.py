@@ -8,9 +8,9 @@ Without options it plays the fixed seeds and some new ones, plays one seed twice
 each of which has to break a promise. A seed that breaks a promise is played again without some of its steps and nodes, as long as it
 still breaks the same promise; what remains is printed. docs/SIMULATION.md says what is simulated and what is checked.
 
---seed plays one seed, with --log FILE for the full log. --new N adds N new seeds, which the commit's hash selects (the gate: 4). --planted NAME
-plays one wrong body from the first seed on, and --all all of them; without these options they begin with the seeds that found them,
-and those that take long are left out.
+--seed plays one seed, with --log FILE for the full log. --new N adds N new seeds, which the commit's hash selects (the gate: 4).
+--planted NAME plays one wrong body from the first seed on, and --all all of them; without these options they begin with the seeds that
+found them, and those that take long are left out.
 --hours H plays new seeds until the clusters have lived so many hours together.
 
 Go 1.19 and the sources of memberlist and of Serf have to be installed (`tools/packages`); otherwise the script prints what is missing, and

@@ -78,7 +78,9 @@ def whole_days(count):
             status, output = run_script(*paths, "--handlers", f"{folder}/handlers.log", *snapshots, "--whole")
             count.check(f"day {seed}: attested", status == 0 and output.startswith("attested: 3 nodes, "), output)
             count.check(f"day {seed}: each run is counted", f"\n  {len(day.log)} runs of handlers" in output, output)
-            count.check(f"day {seed}: it has kills and events", len(day.log) > 10 and sum(len(node.opened_on) for node in day.nodes) > 3, output)
+            count.check(
+                f"day {seed}: it has kills and events", len(day.log) > 10 and sum(len(node.opened_on) for node in day.nodes) > 3, output
+            )
 
 
 def lost_lines(count):
@@ -101,7 +103,9 @@ def lost_lines(count):
             with open(file, "wb") as it:
                 it.write(b"".join(lines[:last] + lines[last + 1 :]))
             status, output = run_script(path, "--snapshot", f"b={file}")
-            count.check(f"{kind}: a file without it", status == 1 and "the snapshot of b lost what was flushed" in output and file in output, output)
+            count.check(
+                f"{kind}: a file without it", status == 1 and "the snapshot of b lost what was flushed" in output and file in output, output
+            )
             node.text = b"".join(lines[:last] + lines[last + 1 :])
             node.open()
             path = day.write(folder)[1]
@@ -147,7 +151,9 @@ def packets_from_outside(count):
         status, output = run_script(*paths)
         count.check("a stranger's packet is counted", status == 0 and "\n  1 packets were made by none of these nodes" in output, output)
         status, output = run_script(*paths, "--whole")
-        count.check("with --whole it is refused", status == 1 and "a received a packet that no recorded node made: 0384a5" in output, output)
+        count.check(
+            "with --whole it is refused", status == 1 and "a received a packet that no recorded node made: 0384a5" in output, output
+        )
 
 
 def wrong_agents(count):
@@ -254,4 +260,8 @@ def changed_records(count):
 
 
 if __name__ == "__main__":
-    sys.exit(checks.over_program(whole_days, lost_lines, handlers, packets_from_outside, wrong_agents, no_records, compactions, pages_run, changed_records))
+    sys.exit(
+        checks.over_program(
+            whole_days, lost_lines, handlers, packets_from_outside, wrong_agents, no_records, compactions, pages_run, changed_records
+        )
+    )

@@ -86,7 +86,9 @@ def files(count):
     count.check("nodes without names", got[:2] == (0, "") and "--node" in got[2], got)
     alive = b"\x04\x83\xa4Node\xa5gamma\xa4Addr" + raw(bytes((10, 0, 0, 2))) + b"\xa4Port\xcd\x1f\x0a"
     got = read(capture([(5, udp(summed(compound(alive, USER))))]))
-    count.check("a name that memberlist reports", got[1] == f'agent "gamma"\ngive "gamma" {EVENT.hex()} at 0us # from "{ALPHA}:7946"\n', got)
+    count.check(
+        "a name that memberlist reports", got[1] == f'agent "gamma"\ngive "gamma" {EVENT.hex()} at 0us # from "{ALPHA}:7946"\n', got
+    )
 
 
 def connections(count):

@@ -15,10 +15,7 @@ SNAPSHOTS = (
     # (no line `leave`)
     (b"event-clock: 7\n leave\nleaves\nleave", (0, 7, 0)),
     (b"event-clock: 007\nclock: 1\n", (1, 7, 0)),
-    (
-        b"clock: 3\nquery-clock: 18446744073709551614\nclock: 2\nevent-clock: 10\nevent-clock: 9",
-        (2, 10, 18446744073709551614),
-    ),
+    (b"clock: 3\nquery-clock: 18446744073709551614\nclock: 2\nevent-clock: 10\nevent-clock: 9", (2, 10, 18446744073709551614)),
     # stock Serf restores the last line of a kind, an agent of this project the largest
     (b"event-clock: 7\nevent-clock: 4\n", (0, 4, 0)),
     (b"event-clock: 7\nevent-clock: 4\n#least event-clock: 8\n", (0, 7, 0)),
@@ -35,7 +32,22 @@ SNAPSHOTS = (
     (b"#le#\n", (0, 0, 0)),
     # what a crash leaves of the first line
     (b"event-clock: 5", (0, 0, 0)),
-    *((word[:size], (0, 0, 0)) for word in (b"clock: ", b"event-clock: ", b"query-clock: ", b"alive: ", b"not-alive: ", b"coordinate: ", b"leave", b"#event ", b"#query ", b"#least ") for size in range(1, len(word))),
+    *(
+        (word[:size], (0, 0, 0))
+        for word in (
+            b"clock: ",
+            b"event-clock: ",
+            b"query-clock: ",
+            b"alive: ",
+            b"not-alive: ",
+            b"coordinate: ",
+            b"leave",
+            b"#event ",
+            b"#query ",
+            b"#least ",
+        )
+        for size in range(1, len(word))
+    ),
     # filler after a text, and lines that were torn over it
     (b"clock: 3\nevent-clock: 7\n" + b"#" * 65535 + b"\n", (3, 7, 0)),
     (b"clock: 3\nevent-clock: 7\nevent-clock: 1" + b"#" * 99 + b"\n", (3, 7, 0)),
@@ -53,7 +65,20 @@ LEFT = (
 )
 
 # Texts that are no snapshots.
-OTHERS = (b"\n", b"event b 5 d v\n", b"event-clock:7\n", b"\x7fELF\x00\xff\n" * 9, b"1 fired 1\n", b"# a log\n", b"#events\n", b"#\n", b"event cl#\n", b"x", b"event-clockx", b"event b 5 d v\ne")
+OTHERS = (
+    b"\n",
+    b"event b 5 d v\n",
+    b"event-clock:7\n",
+    b"\x7fELF\x00\xff\n" * 9,
+    b"1 fired 1\n",
+    b"# a log\n",
+    b"#events\n",
+    b"#\n",
+    b"event cl#\n",
+    b"x",
+    b"event-clockx",
+    b"event b 5 d v\ne",
+)
 
 
 def clocks_output(clocks, words=b""):
@@ -90,7 +115,9 @@ def files(count):
     count.exactly("a missing snapshot", ["clocks", path], 3, b"", os.fsencode(path) + b": no such file\n")
     path = os.path.join(checks.TOP, "README.md")
     count.exactly("a page", ["clocks", path], 1, b"", os.fsencode(path) + b": no line of a snapshot\n")
-    count.exactly("one byte more", ["clocks", "-"], 1, b"", b"the input is too long: it has more than 16777216 bytes\n", b"x" * (checks.LONGEST + 1))
+    count.exactly(
+        "one byte more", ["clocks", "-"], 1, b"", b"the input is too long: it has more than 16777216 bytes\n", b"x" * (checks.LONGEST + 1)
+    )
 
 
 if __name__ == "__main__":

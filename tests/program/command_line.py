@@ -172,18 +172,42 @@ def full_device(count):
         command = [checks.PROGRAM, *words]
         with open("/dev/full", "wb") as full:
             result = subprocess.run(command, input=given.get(words[0], b""), stdout=full, stderr=subprocess.PIPE, timeout=checks.LIMIT)
-        count.check("a full device: " + " ".join(words), (result.returncode, result.stderr) == (3, b"write failed: No space left on device (os error 28)\n"), result)
+        count.check(
+            "a full device: " + " ".join(words),
+            (result.returncode, result.stderr) == (3, b"write failed: No space left on device (os error 28)\n"),
+            result,
+        )
 
 
 def reader_that_went(count):
     """If nobody reads the pipe any more, as after `head`, the command ends and reports nothing."""
     schedule = checks.read("examples", "deploy_gossiped_twice.schedule")
-    given = {"replay": schedule, "explain": schedule, "draw": schedule, "decode": b"06ff\n", "encode": b"foreign 6\n\n", "clocks": b"clock: 1\n"}
-    for words in (["replay"], ["replay", "--stream"], ["replay", "--summary"], ["explain"], ["draw"], ["random", "1"], ["decode"], ["decode", "06ff"], ["encode"], ["clocks", "-"]):
+    given = {
+        "replay": schedule,
+        "explain": schedule,
+        "draw": schedule,
+        "decode": b"06ff\n",
+        "encode": b"foreign 6\n\n",
+        "clocks": b"clock: 1\n",
+    }
+    for words in (
+        ["replay"],
+        ["replay", "--stream"],
+        ["replay", "--summary"],
+        ["explain"],
+        ["draw"],
+        ["random", "1"],
+        ["decode"],
+        ["decode", "06ff"],
+        ["encode"],
+        ["clocks", "-"],
+    ):
         reader, writer = os.pipe()
         os.close(reader)
         with os.fdopen(writer, "wb") as gone:
-            result = subprocess.run([checks.PROGRAM, *words], input=given.get(words[0], b""), stdout=gone, stderr=subprocess.PIPE, timeout=checks.LIMIT)
+            result = subprocess.run(
+                [checks.PROGRAM, *words], input=given.get(words[0], b""), stdout=gone, stderr=subprocess.PIPE, timeout=checks.LIMIT
+            )
         count.check("a reader that closed the pipe: " + " ".join(words), (result.returncode, result.stderr) == (3, b""), result)
 
 

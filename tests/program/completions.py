@@ -50,7 +50,10 @@ def completed_after(shell, line, folder=TOP):
     words = line.split(" ")
     if shell == "bash":
         return said_by(["bash", "--norc", "-c", IN_BASH, "bash", os.path.join(FOLDER, "serf-replay.bash"), *words], folder)
-    return [found.partition("\t")[0] for found in said_by(["fish", "--no-config", "-c", f"source {FOLDER}/serf-replay.fish; complete -C '{line}'"], folder)]
+    return [
+        found.partition("\t")[0]
+        for found in said_by(["fish", "--no-config", "-c", f"source {FOLDER}/serf-replay.fish; complete -C '{line}'"], folder)
+    ]
 
 
 def completed(count, shell, all_commands, outer):

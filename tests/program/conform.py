@@ -178,7 +178,9 @@ def whole_reports(cases):
         replies = [good[0], good[1].replace(sent, line), good[2]]
         last = "       event 1 6465706c6f79 7631 0\n" + "".join(f"  {one}\n" for one in told)
         status, report = cases.told(replies, schedule, words)
-        cases.count.check(f"what differs in a packet: {name}", status == 1 and last in report and not report.rpartition(last)[2].startswith("  "), report)
+        cases.count.check(
+            f"what differs in a packet: {name}", status == 1 and last in report and not report.rpartition(last)[2].startswith("  "), report
+        )
     long = "x" * 100_000
     cases.replies("a long line", [good[0], long.encode() + b"\n\n"], schedule, 1, [f"  got: {long}\n"], words)
 
@@ -422,7 +424,24 @@ def pipe(cases):
     cases.count.check(f"{page}: its examples", result.stdout == said, result)
 
 
-PARTS = (examples, by_meaning, compared, ends_between_calls, states, whole_reports, reasons, refused, looks, rules, rules_of_keeping, limits, machine_reports, reports, shares, pipe)
+PARTS = (
+    examples,
+    by_meaning,
+    compared,
+    ends_between_calls,
+    states,
+    whole_reports,
+    reasons,
+    refused,
+    looks,
+    rules,
+    rules_of_keeping,
+    limits,
+    machine_reports,
+    reports,
+    shares,
+    pipe,
+)
 
 
 if __name__ == "__main__":

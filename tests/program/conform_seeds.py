@@ -144,7 +144,9 @@ def goes_on(cases):
     found = [(checks.KINDS.index(kind), seed) for kind, seed, _ in found_in(output)]
     cases.count.check("over kinds", status == 1 and len(found) == 4 and found == sorted(found), output)
     status, output = compare(["--random", "1-12", "--go-on", "9"], [sys.executable, "-c", ENDS])
-    cases.count.check("ends in the middle", status == 3 and "\n  got: opened 1 1 2\n" in output and "\n  got: the agent ended\n" in output, output)
+    cases.count.check(
+        "ends in the middle", status == 3 and "\n  got: opened 1 1 2\n" in output and "\n  got: the agent ended\n" in output, output
+    )
     example = os.path.join(checks.EXAMPLES, "deploy_gossiped_twice.schedule")
     for name, more in (("none", ["--random", "1", "--go-on", "0"]), ("a schedule", [example, "--go-on", "2"])):
         cases.run(f"refused: --go-on, {name}", ["cat"], more[0], 2, ["--go-on"], more[1:])

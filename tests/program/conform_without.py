@@ -17,7 +17,8 @@ import checks
 import traced_agents
 from piped_agents import PYTHON_AGENT, compare
 
-# An agent that appends its calls to a file, and replies `unsupported` to the calls of a list and to packets of some types: SUBJECT FILE CALLS TYPES [WORDS], with the words of the agent in Python.
+# An agent that appends its calls to a file, and replies `unsupported` to the calls of a list and to packets of some types:
+# SUBJECT FILE CALLS TYPES [WORDS], with the words of the agent in Python.
 SUBJECT = f"""import os, sys
 sys.path.insert(0, {os.path.dirname(PYTHON_AGENT)!r})
 from serf_agent import pipe, switches

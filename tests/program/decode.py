@@ -314,7 +314,12 @@ def framing(count):
         (b"0700", 0, b"foreign 7", b"begins like memberlist's framing: 7, a compound message"),
         (b"09", 0, b"foreign 9", b"begins like memberlist's framing: 9, a compressed message"),
         (b"0182a55365714e6f01", 0, b"foreign 1", b"looks like a message of memberlist: a ping or an ack"),
-        (b"0381ab496e6361726e6174696f6e", 1, b"refused Truncated 14", b"looks like a message of memberlist: a node is suspect, alive or dead"),
+        (
+            b"0381ab496e6361726e6174696f6e",
+            1,
+            b"refused Truncated 14",
+            b"looks like a message of memberlist: a node is suspect, alive or dead",
+        ),
     ):
         out, err = b"foreign 6\n\n" + said + b"\n\n", b"line 3 " + kind + b"\n"
         count.exactly(f"framing {digits.decode()}", ["decode"], status, out, err, b"06\n\n" + digits + b"\n")

@@ -400,7 +400,10 @@ def choices(count):
         found = list(zip([text.text for text in root.findall(f"{SVG}text[@class='n']")], labels(root)))
         wanted = [(number, label) for number, label in every if int(number) in numbers]
         if "--event" in words:
-            wanted = [(number, label.replace("a 1 @1, b 2 @2, +1", {"a": "a 1 @1", "b": "b 2 @2", "c": "c  @3"}.get(words[1], ""))) for number, label in wanted]
+            wanted = [
+                (number, label.replace("a 1 @1, b 2 @2, +1", {"a": "a 1 @1", "b": "b 2 @2", "c": "c  @3"}.get(words[1], "")))
+                for number, label in wanted
+            ]
         count.check(f"{name}: its rows", found == wanted, found)
         lines_are_sound(count, name, root)
         nothing_overlaps(count, name, root)

@@ -193,7 +193,9 @@ def while_it_runs(count):
 def to_full_device(count):
     """A write that fails ends the run."""
     with open("/dev/full", "wb") as full:
-        run = subprocess.run([checks.PROGRAM, *STREAM], input=AGENTS + b"state 0\n", stdout=full, stderr=subprocess.PIPE, timeout=checks.LIMIT)
+        run = subprocess.run(
+            [checks.PROGRAM, *STREAM], input=AGENTS + b"state 0\n", stdout=full, stderr=subprocess.PIPE, timeout=checks.LIMIT
+        )
         count.check("a full device", (run.returncode, run.stderr) == (3, b"write failed: No space left on device (os error 28)\n"), run)
 
 
@@ -224,5 +226,17 @@ def long_runs(count):
 
 
 if __name__ == "__main__":
-    parts = [examples, random_schedules, incident, partition, ranges, any_bytes, said_rows, kept, of_earlier_actions, minimum_times, refusals]
+    parts = [
+        examples,
+        random_schedules,
+        incident,
+        partition,
+        ranges,
+        any_bytes,
+        said_rows,
+        kept,
+        of_earlier_actions,
+        minimum_times,
+        refusals,
+    ]
     sys.exit(checks.by_speed([long_runs], [*parts, streams, while_it_runs, to_full_device]))

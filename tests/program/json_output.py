@@ -220,7 +220,9 @@ def planted(count):
     """An object that has another value, or lacks one, is seen."""
     schedule = read("examples", "a_partition_healed_by_push_pull.schedule")
     plain, objects = run_program(["explain"], schedule)[1], objects_of(run_program(["explain", *JSON], schedule)[1])
-    count.check("as it is", told(objects) == plain and same_words(schedule, objects) and named(schedule, objects) and states_follow(objects))
+    count.check(
+        "as it is", told(objects) == plain and same_words(schedule, objects) and named(schedule, objects) and states_follow(objects)
+    )
     changed = {
         "action": ("answer", "call", "agent_name_hex"),
         "sent": ("packet", "packet_hex"),
@@ -303,7 +305,11 @@ def judged(count):
         missed = [line for line in run_program(["judge", "--missed"], log)[1].decode().splitlines() if " never came to " in line]
         nodes = sum(line.rsplit(" never came to ", 1)[1].count(",") + 1 for line in missed)
         count.check(f"{name}: what was missed", nodes == sum(each["kind"] == "missed" for each in objects), made[1])
-        count.check(f"{name}: handlers", handlers_text(objects) == [line for line in plain[1].decode().splitlines() if line.startswith("Handlers: ")], made[1])
+        count.check(
+            f"{name}: handlers",
+            handlers_text(objects) == [line for line in plain[1].decode().splitlines() if line.startswith("Handlers: ")],
+            made[1],
+        )
 
 
 def dated(each):
@@ -334,7 +340,11 @@ def repeated(count):
     repeats = [(each["log"], each["line"], each["earlier_log"], each["earlier_line"]) for each in objects if each["kind"] == "repeat"]
     count.check("the incident's repeat", (status, repeats) == (1, [(log, 7, log, 6)]), text)
     found = [each for each in objects if each["kind"] == "kept"]
-    count.check("what can come again", [(each["node"], each["clock"], each["again"], each["line"]) for each in found] == [("beta", 2, True, 6)], text)
+    count.check(
+        "what can come again",
+        [(each["node"], each["clock"], each["again"], each["line"]) for each in found] == [("beta", 2, True, 6)],
+        text,
+    )
     status, text, _ = run_program(["judge", log, log, *JSON])
     repeats = [(each["line"], each["earlier_line"]) for each in objects_of(text) if each["kind"] == "repeat"]
     count.check("a log twice: every line again", repeats == [(7, 6)] + [(line, 6 if line == 7 else line) for line in range(1, 8)], text)
@@ -401,7 +411,11 @@ def clocks(count):
             lines = []
             for each in objects_of(made):
                 front = "without -rejoin: " if each.get("rejoin") is False else ""
-                lines += [f"{front}clock {each['clock']}", f"{front}event-clock {each['event_clock']}", f"{front}query-clock {each['query_clock']}"]
+                lines += [
+                    f"{front}clock {each['clock']}",
+                    f"{front}event-clock {each['event_clock']}",
+                    f"{front}query-clock {each['query_clock']}",
+                ]
             count.check(f"{name}: the clocks", lines == plain.splitlines(), made)
 
 
@@ -417,7 +431,9 @@ def summaries(count):
             what = each["kind"].removesuffix("-total").replace("action", "actions")
             answer = " ".join(filter(None, [each.get("answer"), each.get("code")]))
             texts = [hexed(each[key]) if key in each else "" for key in ("name_hex", "payload_hex")]
-            made.append([what, answer, str(each.get("agent", "")), str(each.get("time", "")), *texts, str(each["times"]), str(each.get("last", ""))])
+            made.append(
+                [what, answer, str(each.get("agent", "")), str(each.get("time", "")), *texts, str(each["times"]), str(each.get("last", ""))]
+            )
         count.check(f"{name}: the summary", made == rows, made)
 
 

@@ -1,7 +1,7 @@
 """`judge`: logs of handlers and traces, what is in them twice, from nowhere or too late, what a snapshot leaves open, which handlers never
 ended, and errors in their lines.
 
-rows.py checks that no worked row and no example repeats anything.
+The snapshots with their logs are in `judge/kept_texts.py`. rows.py checks that no worked row and no example repeats anything.
 """
 
 import os
@@ -13,6 +13,9 @@ import tempfile
 sys.dont_write_bytecode = True
 sys.path.insert(0, os.path.dirname(os.path.dirname(os.path.abspath(__file__))))
 import checks
+
+sys.path.insert(0, os.path.join(checks.TOP, "tests", "program", "judge"))
+from kept_texts import kept
 
 INCIDENT = os.path.join(checks.EXAMPLES, "incident")
 LOG, KEPT = os.path.join(INCIDENT, "handlers.log"), os.path.join(INCIDENT, "beta.snapshot")
@@ -99,7 +102,9 @@ def every_repeat(count):
         ("the same at another node", burst + burst.replace(b"gamma", b"beta") + b"event beta 15 burst n15\n"),
     ):
         got = checks.run_program(["judge"], log)
-        count.check(f"each repeat: {name}", got[0] == 1 and got[1].split(b"\n", 2)[2].startswith(lines_again(log, b"event") + NO_QUERIES), got)
+        count.check(
+            f"each repeat: {name}", got[0] == 1 and got[1].split(b"\n", 2)[2].startswith(lines_again(log, b"event") + NO_QUERIES), got
+        )
     log = b"query a 5 1\nquery b 4 1\nquery b 4 1\nquery a 3 1\nquery a 5 1\nquery a 3 1\nquery c 5 1\n"
     got = checks.run_program(["judge"], log)
     count.check("each repeat: queries", got[0] == 1 and got[1].split(b"\n", 3)[3] == lines_again(log, b"query") + NO_FIRINGS, got)
@@ -131,7 +136,9 @@ def leave(count):
     """An incident with a kill and a leave: each node's repeats, and that delta's second life ran each event just once."""
     log = checks.read("examples", "leave", "handlers.log")
     got = checks.run_program(["judge"], log)
-    count.check("a leave: each repeat", got[0] == 1 and got[1].split(b"\n", 2)[2] == lines_again(log, b"event") + NO_QUERIES + NO_FIRINGS, got)
+    count.check(
+        "a leave: each repeat", got[0] == 1 and got[1].split(b"\n", 2)[2] == lines_again(log, b"event") + NO_QUERIES + NO_FIRINGS, got
+    )
     lines = log.splitlines(keepends=True)
     events = {line.split(b" ", 2)[2] for line in lines}
     again = b"".join(lines[-len(events) :])
@@ -146,7 +153,10 @@ def long_logs(count):
     took = checks.processor_seconds() - before
     lines = got[1].splitlines()
     last = b"Missed: 10000 of 10000 events were missed by a node"
-    count.check("a long log: each repeat and each event missed", got[0] == 1 and len(lines) == 20006 and lines[-1] == last, (got[0], len(lines), lines[-1:]))
+    count.check(
+        "a long log: each repeat and each event missed", got[0] == 1 and len(lines) == 20006 and lines[-1] == last,
+        (got[0], len(lines), lines[-1:]),
+    )
     count.check("a long log: in 60 processor seconds, on a program compiled without its proofs too", took < 60, took)
 
 
@@ -161,115 +171,6 @@ def not_asked(count):
     count.exactly("queries alone", ["judge"], 0, said, b"", b"query a 7 9\n")
     fired = b"Fired: not asked: no event lines\nLater: not asked: no event lines\n"
     count.exactly("firings alone", ["judge"], 0, read(0, 0, 1) + NO_EVENTS + NO_QUERIES + fired, b"", b"fired a 1 x y\n")
-
-
-# Snapshots with a log; what is printed about them, and the status.
-EVENTS, QUERIES = b"event b 5 d v\n", b"query a 5 7\n"
-HAS_ALL = b"b keeps its %s: nothing can be handed out again\n"
-LACKS_EVENT = b"b keeps its events up to event-clock %d, and line 1 was handed out at 5: it can be handed out again\n"
-KEPT_TEXTS = (
-    ("an event clock below", EVENTS, "b", b"event-clock: 4\n", b"b keeps event-clock 4, and line 1 was handed out at 5: it can be handed out again\n", 1),
-    ("an event clock at it", EVENTS, "b", b"event-clock: 5\n", b"b keeps event-clock 5: nothing was handed out above it\n", 0),
-    ("a query clock below", QUERIES, "a", b"query-clock: 3\n", b"a keeps query-clock 3, and line 1 was handed out at 5: it can be handed out again\n", 1),
-    ("a query clock at it", QUERIES, "a", b"query-clock: 5\n", b"a keeps query-clock 5: nothing was handed out above it\n", 0),
-    (
-        "both",
-        EVENTS + b"query b 6 7\n",
-        "b",
-        b"query-clock: 3\nevent-clock: 7\n",
-        b"b keeps event-clock 7: nothing was handed out above it\nb keeps query-clock 3, and line 2 was handed out at 6: it can be handed out again\n",
-        1,
-    ),
-    ("a fresh snapshot", EVENTS, "b", b"", b"b keeps event-clock 0, and line 1 was handed out at 5: it can be handed out again\n", 1),
-    ("members alone", EVENTS, "b", b"alive: b 10.0.0.2:7946\n", b"b keeps event-clock 0, and line 1 was handed out at 5: it can be handed out again\n", 1),
-    (
-        "a leave",
-        EVENTS,
-        "b",
-        b"event-clock: 7\nleave\nclock: 2\n",
-        b"b with -rejoin keeps event-clock 7: nothing was handed out above it\n"
-        b"b without -rejoin keeps event-clock 0, and line 1 was handed out at 5: it can be handed out again\n",
-        1,
-    ),
-    (
-        "an event after two leaves",
-        EVENTS,
-        "b",
-        b"event-clock: 7\nleave\nevent-clock: 3\nleave\nevent-clock: 6\nleave",
-        b"b with -rejoin keeps event-clock 6: nothing was handed out above it\nb without -rejoin keeps event-clock 6: nothing was handed out above it\n",
-        0,
-    ),
-    # Stock Serf restores the last line of each kind, not the largest.
-    (
-        "a life that began anew after a leave",
-        EVENTS,
-        "b",
-        b"event-clock: 6\nleave\nevent-clock: 1\n",
-        b"b with -rejoin keeps event-clock 1, and line 1 was handed out at 5: it can be handed out again\n"
-        b"b without -rejoin keeps event-clock 1, and line 1 was handed out at 5: it can be handed out again\n",
-        1,
-    ),
-    ("a smaller line last", EVENTS, "b", b"event-clock: 7\nevent-clock: 0\n", b"b keeps event-clock 0, and line 1 was handed out at 5: it can be handed out again\n", 1),
-    ("a last line that is no number", EVENTS, "b", b"event-clock: 7\nevent-clock: x\nevent-clock: 18446744073709551616\nevent-clock: 3", b"b keeps event-clock 7: nothing was handed out above it\n", 0),
-    # Serf's lowest time wraps to 0.
-    (
-        "a clock of 2^64 - 1",
-        EVENTS,
-        "b",
-        b"event-clock: 18446744073709551615\n",
-        b"b keeps event-clock 18446744073709551615, and line 1 was handed out at 5: it can be handed out again\n",
-        1,
-    ),
-    ("no line that is `leave` alone", EVENTS, "b", b"event-clock: 7\nleaves\n leave\nleave \n", b"b keeps event-clock 7: nothing was handed out above it\n", 0),
-    # An agent of this project continues from all lines. If it keeps its events, those lines decide, and not the clock.
-    ("a minimum time above it", EVENTS, "b", b"#least event-clock: 8\n", HAS_ALL % b"events up to event-clock 0", 0),
-    ("a minimum time at it", EVENTS, "b", b"#least event-clock: 5\n", b"b keeps its events up to event-clock 0, and line 1 was handed out at 5: it can be handed out again\n", 1),
-    ("the event's line", EVENTS, "b", b"#event 5 64 76\nevent-clock: 05\n", HAS_ALL % b"events up to event-clock 5", 0),
-    ("a line of another payload", EVENTS, "b", b"#event 5 64 77\nevent-clock: 05\n", LACKS_EVENT % 5, 1),
-    ("a line of another name", EVENTS, "b", b"#event 5 65 76\nevent-clock: 05\n", LACKS_EVENT % 5, 1),
-    ("a line of another time", EVENTS, "b", b"#event 6 64 76\nevent-clock: 06\n", LACKS_EVENT % 6, 1),
-    ("a line that the disk lost", EVENTS, "b", b"event-clock: 07\n#event 7 61 62\n", LACKS_EVENT % 7, 1),
-    ("a torn line", EVENTS, "b", b"#event 4 61 62\n#event 5 64 7", LACKS_EVENT % 0, 1),
-    ("a line and a leave", EVENTS, "b", b"#event 5 64 76\nevent-clock: 05\nleave\n", HAS_ALL % b"events up to event-clock 5", 0),
-    ("a clock line of a life that kept none", EVENTS, "b", b"event-clock: 7\nleave\n#least event-clock: 8\n", HAS_ALL % b"events up to event-clock 7", 0),
-    ("a time that left the window", EVENTS, "b", b"#event 600 64 76\nevent-clock: 0600\n", HAS_ALL % b"events up to event-clock 600", 0),
-    ("the first time of the window", b"event b 89 d v\n", "b", b"#event 600 64 76\nevent-clock: 0600\n", b"b keeps its events up to event-clock 600, and line 1 was handed out at 89: it can be handed out again\n", 1),
-    ("words of a handler", b"event b 5 d%20e -\n", "b", b"#event 5 642065 \nevent-clock: 05\n", HAS_ALL % b"events up to event-clock 5", 0),
-    ("the text -", b"event b 5 d %2D\n", "b", b"#event 5 64 2d\nevent-clock: 05\n", HAS_ALL % b"events up to event-clock 5", 0),
-    ("words of a trace", b"1 event b 5 6465 - 0\n", "b", b"#event 5 6465 \nevent-clock: 05\n", HAS_ALL % b"events up to event-clock 5", 0),
-    ("a query's line", QUERIES, "a", b"#query 5 9\nquery-clock: 05\n", b"a keeps its queries up to query-clock 5: nothing can be handed out again\n", 0),
-    ("another query's line", QUERIES, "a", b"#query 4 7\nquery-clock: 05\n", b"a keeps its queries up to query-clock 5, and line 1 was handed out at 5: it can be handed out again\n", 1),
-    ("no time of an agent's", b"event b 18446744073709551615 d v\n", "b", b"#event 5 64 76\n", HAS_ALL % b"events up to event-clock 0", 0),
-)
-
-
-def kept(count):
-    with tempfile.TemporaryDirectory() as folder:
-        path = os.path.join(folder, "snapshot")
-        for name, log, node, text, said, status in KEPT_TEXTS:
-            with open(path, "wb") as file:
-                file.write(text)
-            got = checks.run_program(["judge", "--kept", f"{node}={path}"], log)
-            count.check(f"kept: {name}", (got[0], got[2]) == (status, b"") and got[1].endswith(b"no fired lines\n" + said), got)
-        with open(path, "wb") as file:
-            file.write(b"event-clock: 7\nleave\n")
-        got = checks.run_program(["judge", "--own", "--kept", f"b={path}"], EVENTS)
-        count.check("kept: a leave of our agent that keeps no events", got[0] == 0 and got[1].endswith(b"no fired lines\nb keeps event-clock 7: nothing was handed out above it\n"), got)
-        with open(path, "wb") as file:
-            file.write(b"event-clock: 7\n#event 7 61 62\nevent-clock: 4\nleave\n")
-        got = checks.run_program(["judge", "--serf", "--kept", f"b={path}"], EVENTS)
-        said = (
-            b"b with -rejoin keeps event-clock 4, and line 1 was handed out at 5: it can be handed out again\n"
-            b"b without -rejoin keeps event-clock 0, and line 1 was handed out at 5: it can be handed out again\n"
-        )
-        count.check("kept: stock Serf on a file of our agent", got[0] == 1 and got[1].endswith(b"no fired lines\n" + said), got)
-        with open(path, "wb") as file:
-            file.write(b"event b 5 d v\n")
-        none = os.fsencode(path) + b": no line of a snapshot\n"
-        count.exactly("a log for a snapshot", ["judge", "--kept", f"b={path}"], 1, b"", none, EVENTS)
-    said = b"error: --kept B=/dev/null: the log has no event and no query of node 'B'\n"
-    count.exactly("a node that isn't there", ["judge", "--kept", "B=/dev/null"], 2, b"", said, EVENTS)
-    count.exactly("a snapshot that isn't there", ["judge", "--kept", "b=/nowhere"], 3, b"", b"/nowhere: no such file\n", EVENTS)
 
 
 # What is right or wrong with firings; the verdicts of Fired and of Later, and the log.
@@ -309,8 +210,8 @@ FIRINGS = (
 
 
 def handlers_of(log):
-    """What `judge` prints of handlers, by this script's own account: for each event at a node, the lines on which its handlers that have not
-    ended began, of which an end removes the last."""
+    """What `judge` prints of handlers, by this script's own account: for each event at a node, the lines on which its handlers that
+    have not ended began, of which an end removes the last."""
     waiting, failed, began = {}, b"", 0
     for number, line in enumerate(log.splitlines(), 1):
         word, *event = line.split(b" ")
@@ -341,7 +242,10 @@ def handlers(count):
         again = b'Once: line 2 repeats line 1: a 1 "x" "y"\na was handed an event again on 1 line: time 1, line 2\n'
         text = read(2, 0, 1) + again + NO_QUERIES + NO_FIRINGS + handlers_of(log)
         count.exactly(f"twice, first {first.decode()}", ["judge"], 1, text, b"", log)
-    count.exactly("an end alone", ["judge"], 0, read(0, 0, 0) + NO_EVENTS + NO_QUERIES + NO_FIRINGS + handlers_of(b"ended a 1 x y 0"), b"", b"ended a 1 x y 0")
+    count.exactly(
+        "an end alone", ["judge"], 0, read(0, 0, 0) + NO_EVENTS + NO_QUERIES + NO_FIRINGS + handlers_of(b"ended a 1 x y 0"), b"",
+        b"ended a 1 x y 0",
+    )
     for name, line, cause in (
         ("no payload", b"begun a 1 x\n", b"WordCount"),
         ("a status at the beginning", b"begun a 1 x y 0\n", b"WordCount"),
@@ -446,20 +350,35 @@ def dates(count):
     """A date and a time of day in front of a line are printed with the line, and are no words of it; a line of a trace stays one."""
     log = b"event a 1 x y\nquery b 2 3\nfired a 2 x y\nrestarted b\n7 event 0 9 61 62 0\n8 handed 0 1 4 5 61 62\nevent a 1 x y\nx\n"
     said = checks.run_program(["judge"], log)
-    for date, told in ((b"2026-11-26T10:00:00Z",) * 2, (b"2026-11-26 10:00:00,125",) * 2, (b"  2026-11-26  10:00 ", b"2026-11-26 10:00"), (b"0000- 99:",) * 2):
+    for date, told in (
+        (b"2026-11-26T10:00:00Z",) * 2, (b"2026-11-26 10:00:00,125",) * 2, (b"  2026-11-26  10:00 ", b"2026-11-26 10:00"),
+        (b"0000- 99:",) * 2,
+    ):
         got = checks.run_program(["judge"], b"".join(date + b" " + line + b"\n" for line in log.splitlines()))
         wanted = said[1]
         for line in (b"line 7", b"line 1", b"line 3", b"line 8"):
             wanted = re.sub(rb"\b%s\b" % line, line + b" (%s)" % told, wanted)
-        count.check(f"a log with {date}", got == (said[0], wanted, said[2]) and b"Once: line 7 (%s) repeats line 1 (%s): a 1" % (told, told) in got[1], (said, got))
+        count.check(
+            f"a log with {date}",
+            got == (said[0], wanted, said[2]) and b"Once: line 7 (%s) repeats line 1 (%s): a 1" % (told, told) in got[1], (said, got),
+        )
     # If there are several lines, the first and the last have theirs, and a line without a date has none.
     log = b"event a 1 x y\n2026-11-26 event a 1 x y\nevent a 1 x y\n2026-11-27 event a 1 x y\n"
     got = checks.run_program(["judge"], log)
-    count.check("dates of some lines", b"Once: line 2 (2026-11-26) repeats line 1: a" in got[1] and b", lines 2 (2026-11-26) to 4 (2026-11-27)\n" in got[1], got)
+    count.check(
+        "dates of some lines",
+        b"Once: line 2 (2026-11-26) repeats line 1: a" in got[1] and b", lines 2 (2026-11-26) to 4 (2026-11-27)\n" in got[1], got,
+    )
     for line in (b"202-1 event a 1 x y", b"2026 event a 1 x y z", b"x2026-11-26 event a 1 x y", b"10:00:00 event a 1 x y"):
         got = checks.run_program(["judge"], line + b"\n")
-        count.check(f"no date: {line}", got[1].startswith(read(0, 0, 0)) == (b"z" not in line) and (b"bad: line 1" in got[1]) == (b"z" not in line), got)
-    for line, why in ((b"2026-11-26 2026-11-26 event a 1 x y", b"(2026-11-26) UnknownWord"), (b"2026-11-26 10:0 11:0 event a 1 x y", b"(2026-11-26 10:0) UnknownWord"), (b"2026-11-26 event a t x y", b"(2026-11-26) BadWord 3")):
+        count.check(
+            f"no date: {line}", got[1].startswith(read(0, 0, 0)) == (b"z" not in line) and (b"bad: line 1" in got[1]) == (b"z" not in line),
+            got,
+        )
+    for line, why in (
+        (b"2026-11-26 2026-11-26 event a 1 x y", b"(2026-11-26) UnknownWord"),
+        (b"2026-11-26 10:0 11:0 event a 1 x y", b"(2026-11-26 10:0) UnknownWord"), (b"2026-11-26 event a t x y", b"(2026-11-26) BadWord 3"),
+    ):
         got = checks.run_program(["judge"], line + b"\n")
         count.check(f"one date: {line}", got[0] == 1 and b"\nbad: line 1 " + why + b"\n" in got[1], got)
 
@@ -474,7 +393,9 @@ def several_logs(count):
                 file.write(text)
             return path, os.fsencode(path)
 
-        (a, at_a), (b, at_b) = log("a", b"# a\nevent a 1 x y\nquery a 1 1\n"), log("b", b"\xef\xbb\xbfevent a 1 x y\r\nb\nquery a 1 1\nevent a 1 x y")
+        (a, at_a), (b, at_b) = log("a", b"# a\nevent a 1 x y\nquery a 1 1\n"), log(
+            "b", b"\xef\xbb\xbfevent a 1 x y\r\nb\nquery a 1 1\nevent a 1 x y"
+        )
         said = (
             read(3, 2, 1)
             + b"bad: %s:2 UnknownWord\n" % at_b
@@ -489,7 +410,10 @@ def several_logs(count):
         said += b"a keeps query-clock 1: nothing was handed out above it\n"
         count.exactly("a snapshot between two logs", ["judge", a, "--kept", "a=" + kept, b], 1, said, b"")
         got = checks.run_program(["judge", b, "-"], checks.read(a))
-        count.check("standard input after a log", got[0] == 1 and b'Once: %s:4 repeats %s:1: ' % (at_b, at_b) in got[1] and b"QueryOnce: -:3 repeats %s:3" % at_b in got[1], got)
+        count.check(
+            "standard input after a log",
+            got[0] == 1 and b'Once: %s:4 repeats %s:1: ' % (at_b, at_b) in got[1] and b"QueryOnce: -:3 repeats %s:3" % at_b in got[1], got,
+        )
         # A firing in another log counts in either order; one in the same log has to be above.
         (f, at_f), (e, at_e) = log("f", b"fired a 5 x y\nevent b 7 x y\n"), log("e", b"event b 5 x y\nfired b 6 x y\n")
         said = read(2, 0, 2) + ONCE + NO_QUERIES
@@ -503,7 +427,9 @@ def several_logs(count):
             count.exactly(f"a firing in another log: {order}", ["judge", *order], 0, said, b"")
         # A firing below, in the log itself or in one log for all, doesn't count.
         (below, at_below), (other, _) = log("below", b"event b 1 x y\nfired c 1 x y\n"), log("other", b"event a 1 x y\n")
-        said = read(2, 0, 3) + ONCE + NO_QUERIES + b'Fired: %s:1 hands out what no line above it fired: b 1 "x" "y"\nLater: holds\n' % at_below
+        said = (
+            read(2, 0, 3) + ONCE + NO_QUERIES + b'Fired: %s:1 hands out what no line above it fired: b 1 "x" "y"\nLater: holds\n' % at_below
+        )
         for order in ((below, other), (other, below)):
             count.exactly(f"a firing below in the same log: {order}", ["judge", *order], 1, said, b"")
         got = checks.run_program(["judge", below, second])
@@ -554,8 +480,15 @@ def control_characters(count):
     )
     for said in wanted:
         count.check(f"control characters: {said}", said in got[1], got)
-    count.check("control characters: all is printable", got[0] == 1 and all(byte == 10 or 32 <= byte < 127 for byte in got[1] + got[2]), got)
+    count.check(
+        "control characters: all is printable", got[0] == 1 and all(byte == 10 or 32 <= byte < 127 for byte in got[1] + got[2]), got
+    )
 
 
 if __name__ == "__main__":
-    sys.exit(checks.over_program(incident, repeats, every_repeat, missed, leave, long_logs, not_asked, kept, handlers, firings, bad_lines, ends_of_lines, dates, several_logs, traces, control_characters))
+    sys.exit(
+        checks.over_program(
+            incident, repeats, every_repeat, missed, leave, long_logs, not_asked, kept, handlers, firings, bad_lines, ends_of_lines, dates,
+            several_logs, traces, control_characters,
+        )
+    )

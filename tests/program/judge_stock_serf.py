@@ -77,12 +77,25 @@ class Agent:
         self.process = None
 
     def start(self, *words):
-        command = ["serf", "agent", f"-node={self.name}", f"-bind={self.bind}", f"-rpc-addr={self.rpc}", f"-snapshot={self.snapshot}", f"-event-handler=user={HANDLER}", *words]
-        self.process = subprocess.Popen(command, env={**os.environ, "SERF_LOG": self.log}, stdin=subprocess.DEVNULL, stdout=self.said, stderr=self.said)
+        command = [
+            "serf",
+            "agent",
+            f"-node={self.name}",
+            f"-bind={self.bind}",
+            f"-rpc-addr={self.rpc}",
+            f"-snapshot={self.snapshot}",
+            f"-event-handler=user={HANDLER}",
+            *words,
+        ]
+        self.process = subprocess.Popen(
+            command, env={**os.environ, "SERF_LOG": self.log}, stdin=subprocess.DEVNULL, stdout=self.said, stderr=self.said
+        )
         until(f"{self.name} answers", lambda: self.call("info").returncode == 0)
 
     def call(self, command, *words):
-        return subprocess.run(["serf", command, f"-rpc-addr={self.rpc}", *words], stdin=subprocess.DEVNULL, capture_output=True, timeout=SEEN)
+        return subprocess.run(
+            ["serf", command, f"-rpc-addr={self.rpc}", *words], stdin=subprocess.DEVNULL, capture_output=True, timeout=SEEN
+        )
 
     def kill(self):
         if self.process is not None:
@@ -180,19 +193,31 @@ def starts(count):
         runs = list(pool.map(one_run, cases))
     for case, (judged, clock, had, after, is_compacted, lines) in zip(cases, runs):
         ends_by_leave, is_padded, rejoined, rejoins = case
-        words = ["leave" if ends_by_leave else "kill", "compacted" if is_padded else "as written", *(f"-rejoin={flag}".lower() for flag in (rejoined, rejoins))]
+        words = [
+            "leave" if ends_by_leave else "kill",
+            "compacted" if is_padded else "as written",
+            *(f"-rejoin={flag}".lower() for flag in (rejoined, rejoins)),
+        ]
         name = ", ".join(words)
         again = {event for event in after if event in had}
         above = {event for event in had if clock is not None and event[0] > clock}
         # (alpha fired the first ones, so it replays only these; the second is gamma's own)
         wanted = {event for event in above if event[1] == b"first"}
-        count.check(f"{name}: what runs again is above the clock that clocks prints", again & wanted == wanted and again <= above, (clock, had, after))
+        count.check(
+            f"{name}: what runs again is above the clock that clocks prints",
+            again & wanted == wanted and again <= above,
+            (clock, had, after),
+        )
         count.check(f"{name}: judge says whether something can be handed out again", judged == bool(above), (judged, clock, had, after))
         count.check(f"{name}: compacted", is_compacted or not is_padded, case)
         if ends_by_leave and not rejoined and not is_padded:
             # (Serf's clock began anew, so its last line isn't its largest)
             count.check(f"{name}: a smaller clock line is the last", int(lines[-1]) < max(map(int, lines)), lines)
-    count.check("some run has events that ran again, and some has none", len({bool(set(after) & set(had)) for _, _, had, after, *_ in runs}) == 2, runs)
+    count.check(
+        "some run has events that ran again, and some has none",
+        len({bool(set(after) & set(had)) for _, _, had, after, *_ in runs}) == 2,
+        runs,
+    )
 
 
 if __name__ == "__main__":

@@ -93,7 +93,13 @@ def run_wrapped_handler(shell, given, *command, kind=b"user"):
     """What the log says of an event or a query whose handler is this command, without the dates, the status, and what it prints."""
     with tempfile.TemporaryDirectory() as folder:
         log = os.path.join(folder, "log")
-        held = {b"PATH": os.environb[b"PATH"], b"TMPDIR": os.fsencode(folder), b"LC_ALL": b"C.UTF-8", b"SERF_EVENT": kind, b"SERF_SELF_NAME": b"my node"}
+        held = {
+            b"PATH": os.environb[b"PATH"],
+            b"TMPDIR": os.fsencode(folder),
+            b"LC_ALL": b"C.UTF-8",
+            b"SERF_EVENT": kind,
+            b"SERF_SELF_NAME": b"my node",
+        }
         held |= {b"SERF_USER_LTIME": b"7", b"SERF_USER_EVENT": b"deploy", b"SERF_QUERY_LTIME": b"8", b"SERF_QUERY_NAME": b"load"}
         result = subprocess.run([shell, HANDLER, log, *command], input=given, env=held, capture_output=True, timeout=checks.LIMIT)
         lines = checks.read(log).splitlines(keepends=True) if os.path.exists(log) else []
@@ -103,9 +109,21 @@ def run_wrapped_handler(shell, given, *command, kind=b"user"):
 def commands(count):
     """The script runs a command between two lines: the command has the same input and environment, and its status is passed on."""
     for shell in SHELLS:
-        for given, word in ((b"v2\n", b"v2"), (b"", b"-"), (b"a b\0c\n", b"a%20bc"), (b"two\nlines\n", b"two%0Alines"), (bytes(range(256)) * 36, None)):
-            log, status, printed, left = run_wrapped_handler(shell, given, "sh", "-c", 'cat; printf %s "$SERF_USER_EVENT $LC_ALL" >&2; exit 3')
-            count.check(f"{shell}: a command's input {given[:9]}", (status, printed, left) == (3, given + b"deploy C.UTF-8", ["log"]), (status, printed, left))
+        for given, word in (
+            (b"v2\n", b"v2"),
+            (b"", b"-"),
+            (b"a b\0c\n", b"a%20bc"),
+            (b"two\nlines\n", b"two%0Alines"),
+            (bytes(range(256)) * 36, None),
+        ):
+            log, status, printed, left = run_wrapped_handler(
+                shell, given, "sh", "-c", 'cat; printf %s "$SERF_USER_EVENT $LC_ALL" >&2; exit 3'
+            )
+            count.check(
+                f"{shell}: a command's input {given[:9]}",
+                (status, printed, left) == (3, given + b"deploy C.UTF-8", ["log"]),
+                (status, printed, left),
+            )
             lines = b"begun my%20node 7 deploy " + (word or b"") + b"\nended my%20node 7 deploy " + (word or b"") + b" 3\n"
             count.check(f"{shell}: a command's lines {given[:9]}", word is None or log == lines, log)
         for command, status, ended in (("true", 0, b"0"), ("false", 1, b"1"), ("kill -9 $$", 137, b"137"), ("exit 255", 255, b"255")):

@@ -240,7 +240,9 @@ def rounds_without_room(count):
     for agents, said in (("10000", b"random: a schedule has at most 16777216 bytes, so the last rounds may be missing\n"), ("1000", b"")):
         made = run_program(["random", "1", "--kind", "rounds", "--agents", agents, "--fanout", "16"])
         is_full = checks.LONGEST - 4096 < len(made.stdout) <= checks.LONGEST
-        count.check(f"rounds of {agents} agents", (made.returncode, made.stderr, is_full) == (0, said, bool(said)), (made.stderr, len(made.stdout)))
+        count.check(
+            f"rounds of {agents} agents", (made.returncode, made.stderr, is_full) == (0, said, bool(said)), (made.stderr, len(made.stdout))
+        )
 
 
 def sends_in(text):
@@ -265,9 +267,15 @@ def rounds_spread(count):
         count.check(f"{name}: rounds in order", list(sends) == sorted(sends) and max(sends, default=0) <= 30, list(sends))
         events = run_program(["replay"], made.stdout).stdout.count(b" event ")
         fired = sum(line.startswith(b"fire ") for line in made.stdout.splitlines())
-        count.check(f"{name}: which agents got the events", (events == 100 * fired) if (fanout, loss) == (3, 0) else events >= fired, (events, fired))
+        count.check(
+            f"{name}: which agents got the events",
+            (events == 100 * fired) if (fanout, loss) == (3, 0) else events >= fired,
+            (events, fired),
+        )
     said = run_program(["random", "5", *words])
-    count.check("the same words generate it again", run_program(said.stdout.split(b" version")[0].decode().split(" ")[1:]).stdout == said.stdout)
+    count.check(
+        "the same words generate it again", run_program(said.stdout.split(b" version")[0].decode().split(" ")[1:]).stdout == said.stdout
+    )
 
 
 def all_rounds(count):

@@ -104,11 +104,25 @@ def of_editors(count):
     with tempfile.NamedTemporaryFile() as file:
         file.write(mark + crlf)
         file.flush()
-        for words in (["replay"], ["replay", "--stream"], ["replay", "--summary"], ["replay", "--summary", "--stream"], ["explain"], ["explain", "--stream"], ["explain", "--agent", "0"], ["draw"], ["conform"]):
+        for words in (
+            ["replay"],
+            ["replay", "--stream"],
+            ["replay", "--summary"],
+            ["replay", "--summary", "--stream"],
+            ["explain"],
+            ["explain", "--stream"],
+            ["explain", "--agent", "0"],
+            ["draw"],
+            ["conform"],
+        ):
             plain = os.path.join(checks.EXAMPLES, "deploy_gossiped_twice.schedule")
             got, wanted = checks.run_program([*words, file.name]), checks.run_program([*words, plain])
             count.check(f"a file of an editor: {words}", got == wanted and wanted[1], got)
-            for name, text in (("carriage returns", crlf), ("a mark", mark + schedule), ("a mark and a comment", mark + b"# x\r\n\r\n" + crlf)):
+            for name, text in (
+                ("carriage returns", crlf),
+                ("a mark", mark + schedule),
+                ("a mark and a comment", mark + b"# x\r\n\r\n" + crlf),
+            ):
                 if words[0] != "conform":
                     got = checks.run_program(words, text)
                     count.check(f"{name}: {words}", got == wanted, got)
@@ -136,9 +150,19 @@ def faults(count):
     count.exactly("a folder", ["replay", checks.TOP], 3, b"", os.fsencode(checks.TOP) + b": read failed: Is a directory (os error 21)\n")
     path = os.path.join(checks.EXAMPLES, "deploy_gossiped_twice.written")
     hint = b"if this is a written schedule, run: serf-replay write %s | serf-replay replay\n" % os.fsencode(path)
-    for words in (["replay"], ["replay", "--stream"], ["replay", "--summary"], ["explain"], ["explain", "--agent", "alpha"], ["draw"], ["conform"]):
+    for words in (
+        ["replay"],
+        ["replay", "--stream"],
+        ["replay", "--summary"],
+        ["explain"],
+        ["explain", "--agent", "alpha"],
+        ["draw"],
+        ["conform"],
+    ):
         got = checks.run_program([*words, path])
-        count.check(f"a written schedule: {words}", got[:2] == (1, b"") and got[2].startswith(b"bad line ") and got[2].endswith(b"\n" + hint), got)
+        count.check(
+            f"a written schedule: {words}", got[:2] == (1, b"") and got[2].startswith(b"bad line ") and got[2].endswith(b"\n" + hint), got
+        )
 
 
 def on_a_terminal(words, given=b""):
@@ -390,7 +414,17 @@ def for_people(count):
     count.exactly("a state in words", ["replay", "--format", "text"], 0, said, b"", state)
 
 
-PARTS = (examples, bad_lines, of_editors, faults, slow_input_on_a_terminal, sentences_on_a_terminal, summaries, summaries_for_machines, for_people)
+PARTS = (
+    examples,
+    bad_lines,
+    of_editors,
+    faults,
+    slow_input_on_a_terminal,
+    sentences_on_a_terminal,
+    summaries,
+    summaries_for_machines,
+    for_people,
+)
 
 # The parts that measure time and memory: a program that is compiled unproved has checks in it.
 PROVED_ALONE = (long_run_on_a_terminal, memory_of_agents, no_memory, jobs_on_a_terminal, short_run_on_a_terminal)

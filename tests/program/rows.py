@@ -42,7 +42,9 @@ def is_no_repeat(trace, text):
     found = NO_REPEAT.fullmatch(text)
     second = [line.split(" ")[1] for line in trace.splitlines()]
     counts = [str(second.count(word)) for word in ("event", "handed")]
-    return bool(found) and [found[1], found[2]] == counts and [found[3] == "holds", found[4] == "holds"] == [count != "0" for count in counts]
+    return (
+        bool(found) and [found[1], found[2]] == counts and [found[3] == "holds", found[4] == "holds"] == [count != "0" for count in counts]
+    )
 
 
 def actions_in(schedule):

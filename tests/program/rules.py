@@ -100,22 +100,14 @@ CASES = {
         ],
         AGENT + " 2",
     ),
-    "what the agent fired": [
-        (FIRE, fired(1)),
-        (deliver(event(1)), "ignored Seen"),
-        (ASK, asked(1)),
-        (deliver(query(1)), "ignored Seen"),
-    ],
+    "what the agent fired": [(FIRE, fired(1)), (deliver(event(1)), "ignored Seen"), (ASK, asked(1)), (deliver(query(1)), "ignored Seen")],
     "the time of an answer": [
         (deliver(answer(50, 1, b"b"), 100), "ignored NotOpen"),
         (deliver(answer(MAX_UINT64, 1, b"b", 1), 100), "ignored NotOpen"),
         (FIRE, fired(1)),
         (ASK, asked(1)),
     ],
-    "clocks of a life": [
-        ("restart " + b"clock: 3\nevent-clock: 5\nquery-clock: 7\n".hex(), "restarted 4 6 8"),
-        (FIRE, fired(6)),
-    ],
+    "clocks of a life": [("restart " + b"clock: 3\nevent-clock: 5\nquery-clock: 7\n".hex(), "restarted 4 6 8"), (FIRE, fired(6))],
     "least times of a life": [
         ("restart " + b"event-clock: 5\nquery-clock: 7\n".hex(), "restarted 1 6 8"),
         (deliver(event(5)), "ignored BelowMinimum"),
@@ -125,9 +117,12 @@ CASES = {
     ],
     "lines that are skipped": [
         (
-            "restart " + b"event-clock: 9\r\nevent-clock:  9\nevent-clock: +9\nevent-clock: %d\nclock: 2\n".replace(b"%d", str(MAX_UINT64).encode()).hex(),
+            "restart "
+            + b"event-clock: 9\r\nevent-clock:  9\nevent-clock: +9\nevent-clock: %d\nclock: 2\n".replace(
+                b"%d", str(MAX_UINT64).encode()
+            ).hex(),
             "restarted 3 1 1",
-        ),
+        )
     ],
     "what a restart forgets": [
         (ASK, asked(1)),
@@ -160,9 +155,21 @@ CASES = {
         AGENT,
         [(BREAK, BROKEN), (deliver(event(7)), FAILED), (RESTART, "restarted 1 1 1"), (deliver(event(7)), got(7))],
         AGENT,
-        [(deliver(event(5)), got(5)), ("break flush 1", BROKEN), (deliver(event(7)), FAILED), (TAIL_OF_4, "restarted 5 6 1"), (deliver(event(7)), got(7))],
+        [
+            (deliver(event(5)), got(5)),
+            ("break flush 1", BROKEN),
+            (deliver(event(7)), FAILED),
+            (TAIL_OF_4, "restarted 5 6 1"),
+            (deliver(event(7)), got(7)),
+        ],
         AGENT,
-        [(deliver(event(5)), got(5)), (BREAK, BROKEN), (deliver(event(7)), FAILED), (TAIL_OF_4, "restarted 5 6 1"), (deliver(event(7)), got(7))],
+        [
+            (deliver(event(5)), got(5)),
+            (BREAK, BROKEN),
+            (deliver(event(7)), FAILED),
+            (TAIL_OF_4, "restarted 5 6 1"),
+            (deliver(event(7)), got(7)),
+        ],
         AGENT,
     ),
     "a query whose line fails": [(BREAK, BROKEN), (ASK, FAILED), ("close 1000", "closed 0"), ("respond 0 100 -", "refused NoQuery")],
@@ -238,13 +245,13 @@ CASES = {
         [(merge(state(1, 12, 1, [(11, (b"a",)), (12, (b"b",))]), "join"), "merged, event 0 12 62 - 0")],
         IGNORING,
     ),
-    "an empty slot": [
-        (merge(bytes.fromhex("0281a64576656e74739182a54c54696d6532a64576656e747390")), "merged"),
-        (FIRE, fired(1)),
-    ],
+    "an empty slot": [(merge(bytes.fromhex("0281a64576656e74739182a54c54696d6532a64576656e747390")), "merged"), (FIRE, fired(1))],
     "the lines of a merge": [
         ("break flush 3", BROKEN),
-        (merge(state(1, 1, 1, [(5, (b"a", b"b")), (4, (b"c",)), (6, (b"d",))])), "merged, event 0 5 61 - 0, event 0 5 62 - 0, event 0 4 63 - 0, event 0 6 64 - 0"),
+        (
+            merge(state(1, 1, 1, [(5, (b"a", b"b")), (4, (b"c",)), (6, (b"d",))])),
+            "merged, event 0 5 61 - 0, event 0 5 62 - 0, event 0 4 63 - 0, event 0 6 64 - 0",
+        ),
         (deliver(event(7)), FAILED),
     ],
     "a merge that fails": (
@@ -425,7 +432,11 @@ def slots(count):
         count.check("a slot's place", held == [("1", "5"), ("2", "6")], lines)
         count.check("a slot's place: all are sent", sum(line.startswith("slot ") for line in lines) == 4, lines)
         lines = slots_after(5, names=(b"b", b"c", b"a"), agent=agent)[1]
-        count.check("a slot's place: its events", [line for line in lines if line.startswith("event ")] == ["event 62 -", "event 63 -", "event 61 -"], lines)
+        count.check(
+            "a slot's place: its events",
+            [line for line in lines if line.startswith("event ")] == ["event 62 -", "event 63 -", "event 61 -"],
+            lines,
+        )
         held, lines = slots_after(5, 16, agent=agent)
         count.check("a slot older than the window", held == [("0", "16"), ("1", "5")], lines)
         held, lines = slots_after(5, 17, agent=agent)
@@ -455,7 +466,9 @@ def texts(count):
 
 
 def texts_of_keeping(count):
-    lived = "".join(f"{line}\n" for line in ("clock: 2", "event-clock: 06", "#event 6 79 ", "#event 5 78 ", "query-clock: 03", "#query 3 1"))
+    lived = "".join(
+        f"{line}\n" for line in ("clock: 2", "event-clock: 06", "#event 6 79 ", "#event 5 78 ", "query-clock: 03", "#query 3 1")
+    )
     calls = (f"restart 0 {lived.encode().hex()}", "restarted 3 7 4"), ("compact 0", "compacted")
     kept = kept_after(*calls, agent=keeps(AGENT))
     count.check("what `compact` writes with `+events`", kept == keeping.COMPACTED, repr(kept))

@@ -123,7 +123,10 @@ def long_ones(count):
     lines = AGENTS + fire + b"deliver 1 0 0\n" * 1_300_000
     text = b"1 fired 1\n1 sent 0 " + run_program(["replay"], AGENTS + fire)[1].split(b" ")[5].split(b"\n")[0] + b"\n"
     got = run_program(STREAM, lines)
-    count.check("more than 16 MiB are too long for replay", run_program(["replay"], lines)[::2] == (1, b"the input is too long: it has more than 16777216 bytes\n"))
+    count.check(
+        "more than 16 MiB are too long for replay",
+        run_program(["replay"], lines)[::2] == (1, b"the input is too long: it has more than 16777216 bytes\n"),
+    )
     count.check(
         "and not for a stream",
         got[0] == 0 and got[2] == b"" and got[1].startswith(text) and got[1].count(b" ignored Seen\n") == 1_299_999,
@@ -185,7 +188,11 @@ def marks(count):
     with tempfile.TemporaryDirectory() as folder:
         path = os.path.join(folder, "marked.schedule")
         with open(path, "wb") as file:
-            file.write(b"# mark begin\n" + AGENTS + b"fire 0 61 - 0\n# mark one has it\n\ndeliver 1 0 0\ndeliver 1 0 0\n# mark, both\n# mark both\nfire 1 62 - 0\n")
+            file.write(
+                b"# mark begin\n"
+                + AGENTS
+                + b"fire 0 61 - 0\n# mark one has it\n\ndeliver 1 0 0\ndeliver 1 0 0\n# mark, both\n# mark both\nfire 1 62 - 0\n"
+            )
         result = subprocess.run([sys.executable, script, path, checks.PROGRAM], capture_output=True, text=True, timeout=checks.LIMIT)
         rows = ["begin,0,0,0,0", "one has it,1,1,1,0", "both,3,2,1,1", "end,4,3,2,1"]
         wanted = [head, *(f"{row},0,0,0,{int(at > 1)},0,0,0,0,0,0,0" for at, row in enumerate(rows))]
@@ -193,15 +200,23 @@ def marks(count):
         with open(path, "wb") as file:
             file.write(AGENTS + b"# mark here\nfires 0\n")
         result = subprocess.run([sys.executable, script, path, checks.PROGRAM], capture_output=True, text=True, timeout=checks.LIMIT)
-        count.check("marks before a bad line", (result.returncode, result.stdout, result.stderr) == (1, head + "\n", "bad line 4 UnknownWord\n"), str(result)[:800])
+        count.check(
+            "marks before a bad line",
+            (result.returncode, result.stdout, result.stderr) == (1, head + "\n", "bad line 4 UnknownWord\n"),
+            str(result)[:800],
+        )
         with open(path, "wb") as file:
             file.write(AGENTS + b"fire 0 61 - 0\ndeliver 1 0 7\nfire 1 62 - 0\ndeliver 0 2 9\ndeliver 0 2 11\n")
-        result = subprocess.run([sys.executable, script, "--events", path, checks.PROGRAM], capture_output=True, text=True, timeout=checks.LIMIT)
+        result = subprocess.run(
+            [sys.executable, script, "--events", path, checks.PROGRAM], capture_output=True, text=True, timeout=checks.LIMIT
+        )
         wanted = "time,name,payload,agents,first,half,nine_tenths,last\n1,61,-,2,0,0,7,7\n2,62,-,2,7,7,9,9\n"
         count.check("a row for each event", (result.returncode, result.stdout) == (0, wanted), result)
         with open(path, "wb") as file:
             file.write(checks.run_program(["random", "3", "--kind", "rounds", "--agents", "40"])[1])
-        result = subprocess.run([sys.executable, script, "--every", "200000000", path, checks.PROGRAM], capture_output=True, text=True, timeout=checks.LIMIT)
+        result = subprocess.run(
+            [sys.executable, script, "--every", "200000000", path, checks.PROGRAM], capture_output=True, text=True, timeout=checks.LIMIT
+        )
         rows = [[int(word) for word in row.split(",")[1:]] for row in result.stdout.splitlines()[1:]]
         grows = all(one[0] < more[0] and all(a <= b for a, b in zip(one, more)) for one, more in zip(rows, rows[1:]))
         summary = [row.split(",") for row in checks.run_program(["replay", "--summary", "--format", "csv", path])[1].decode().splitlines()]

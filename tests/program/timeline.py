@@ -36,7 +36,9 @@ KEPT = f"beta={os.path.join(INCIDENT, 'beta.snapshot')}"
 LINES = 800
 
 # What must never be in the script: ways for data to become markup or code.
-MARKUP = re.compile(r"\b(innerHTML|outerHTML|insertAdjacentHTML|document\.write|eval|Function|srcdoc|createContextualFragment|import)\b\s*\(?")
+MARKUP = re.compile(
+    r"\b(innerHTML|outerHTML|insertAdjacentHTML|document\.write|eval|Function|srcdoc|createContextualFragment|import)\b\s*\(?"
+)
 
 # Names that would run if the page took them for markup.
 HOSTILE = (
@@ -121,10 +123,15 @@ def check_source(check):
     check.check("the program has the page's files", result.returncode == 0, result.stderr)
     page = page_of(SCHEDULE, "--title", "<b>")
     policy = re.search(r'Content-Security-Policy" content="([^"]*)"', page)[1]
-    check.check("only the page's own script may run", "default-src 'none'" in policy and policy.count("'sha256-") == 1 and "script-src 'sha256-" in policy, policy)
+    check.check(
+        "only the page's own script may run",
+        "default-src 'none'" in policy and policy.count("'sha256-") == 1 and "script-src 'sha256-" in policy, policy,
+    )
     digest = base64.b64encode(hashlib.sha256(script.encode()).digest()).decode()
     check.check("the policy has the hash of the script", f"'sha256-{digest}'" in policy, policy)
-    check.check("the page has the script and the style", f"<script>{script}</script>" in page and checks.text_of(FOLDER, "timeline.css") in page)
+    check.check(
+        "the page has the script and the style", f"<script>{script}</script>" in page and checks.text_of(FOLDER, "timeline.css") in page
+    )
     check.check("a title is text", "<b>" not in page and page.count("&lt;b&gt;") == 2)
 
 
@@ -138,8 +145,13 @@ def check_words(check):
         ((LOG,), 1, "bad line"),
     ):
         result = subprocess.run([checks.PROGRAM, "timeline", *words], capture_output=True, text=True, timeout=checks.LIMIT)
-        check.check(f"timeline {' '.join(map(os.path.basename, words))}", result.returncode == status and said in result.stderr and not result.stdout, result)
-    check.check("a schedule on standard input", page_of("-", "--title", "x", given=checks.read(SCHEDULE)) == page_of(SCHEDULE, "--title", "x"))
+        check.check(
+            f"timeline {' '.join(map(os.path.basename, words))}",
+            result.returncode == status and said in result.stderr and not result.stdout, result,
+        )
+    check.check(
+        "a schedule on standard input", page_of("-", "--title", "x", given=checks.read(SCHEDULE)) == page_of(SCHEDULE, "--title", "x")
+    )
     check.check("a log on standard input", "line 7" in page_of("--log", "-", given=checks.read(LOG)))
     check.check("the title names the files", f"<h1>Timeline of {LOG} {SCHEDULE}</h1>" in page_of(SCHEDULE, "--log", LOG))
 
@@ -183,14 +195,23 @@ def check_incident(check, page, folder):
     at = made(folder, "incident", os.path.join(INCIDENT, "as_serf_kept.written"), "--log", LOG, "--kept", KEPT)
     page.open(at)
     verdict = text_in(page, "#verdict")
-    check.check("the verdict has what ran twice, on which node, and in which lines", "beta ran deploy v2 @3 twice: line 6, and again line 7" in verdict, verdict)
-    check.check("the verdict says why", "beta's snapshot keeps event clock 2" in verdict and "can run line 6 again, which has time 3" in verdict, verdict)
+    check.check(
+        "the verdict has what ran twice, on which node, and in which lines",
+        "beta ran deploy v2 @3 twice: line 6, and again line 7" in verdict, verdict,
+    )
+    check.check(
+        "the verdict says why", "beta's snapshot keeps event clock 2" in verdict and "can run line 6 again, which has time 3" in verdict,
+        verdict,
+    )
     check.check("the verdict compares with the schedule", "an agent of this project is handed it once" in verdict, verdict)
     check.check("two panes", page.run("document.querySelectorAll('.pane').length") == 2)
     check.check("the schedule's pane says that it is not what happened", "not what happened" in text_in(page, ".pane.run .note"))
     selected = page.run(pane(SELECTED))
     check.check("what ran twice is selected at first", (selected or "").endswith("handlers.log:7"), selected)
-    check.check("its first run is in red too", page.run("[...document.querySelectorAll('.log g.before')].map((g) => g.dataset.id)")[0].endswith("handlers.log:6"))
+    check.check(
+        "its first run is in red too",
+        page.run("[...document.querySelectorAll('.log g.before')].map((g) => g.dataset.id)")[0].endswith("handlers.log:6"),
+    )
     check.check("the other pane marks the same event", page.run("document.querySelectorAll('.run .box.related').length") == 1)
     check.check("the details have all lines", "line 6, and again line 7" in text_in(page, ".detail"))
     page.click_on("#verdict button")
@@ -203,7 +224,11 @@ def check_incident(check, page, folder):
     check.check("what changed in its state", "3 → 4" in text_in(page, ".detail tr.changed td"), detail)
     page.run("document.querySelectorAll('.detail details').forEach((one) => { one.open = true; })")
     page.run("new Promise((done) => setTimeout(done, 50))")
-    check.check("its snapshot, with what the restart kept", "event-clock: 2\nevent-clock: 3" in page.run("[...document.querySelectorAll('.detail pre')].map((pre) => pre.textContent).join('\\n')"))
+    check.check(
+        "its snapshot, with what the restart kept",
+        "event-clock: 2\nevent-clock: 3"
+        in page.run("[...document.querySelectorAll('.detail pre')].map((pre) => pre.textContent).join('\\n')"),
+    )
     check.check("no error", not page.errors, page.errors)
 
 
@@ -216,10 +241,16 @@ def check_second_life(check, page, folder):
         file.write('agent alpha\nagent beta\nagent "beta again"\nv1: fire alpha "deploy" "v1"\ndeliver beta v1\ndeliver "beta again" v1\n')
     page.open(made(folder, "second", written, "--log", log))
     verdict = text_in(page, "#verdict")
-    check.check("the verdict has the second agent", "3 hand-outs" not in verdict and "1 of them again, by a second agent of the same node" in verdict, verdict)
+    check.check(
+        "the verdict has the second agent",
+        "3 hand-outs" not in verdict and "1 of them again, by a second agent of the same node" in verdict, verdict,
+    )
     check.check("nothing is left to compare", "in this schedule" not in verdict, verdict)
     red = page.run("[...document.querySelectorAll('.run g.again')].map((g) => g.dataset.id).join()")
-    check.check("what it is handed again is red, and joined", red == "action 3" and page.run("document.querySelectorAll('.run path.again').length") == 1, red)
+    check.check(
+        "what it is handed again is red, and joined",
+        red == "action 3" and page.run("document.querySelectorAll('.run path.again').length") == 1, red,
+    )
     page.click_on('.run g[data-id="action 2"] .label')
     check.check("both lines of the node belong to its action", page.run("document.querySelectorAll('.log .box.related').length") == 2)
     check.check("no error", not page.errors, page.errors)
@@ -230,7 +261,10 @@ def check_steps(check, page, folder):
     at = made(folder, "steps", os.path.join(checks.EXAMPLES, "deploy_gossiped_twice.schedule"))
     page.open(at)
     selected = lambda: page.run(pane(SELECTED, "run"))
-    keys = [("ArrowDown", 1), ("ArrowDown", 2), ("End", 3), ("ArrowDown", 3), ("ArrowUp", 2), ("Home", 1), ("j", 2), ("k", 1), ("PageDown", 3), ("PageUp", 1)]
+    keys = [
+        ("ArrowDown", 1), ("ArrowDown", 2), ("End", 3), ("ArrowDown", 3), ("ArrowUp", 2), ("Home", 1), ("j", 2), ("k", 1), ("PageDown", 3),
+        ("PageUp", 1),
+    ]
     for key, wanted in keys:
         page.press(key)
         check.check(f"{key} goes to action {wanted}", selected() == f"action {wanted}", selected())
@@ -239,7 +273,10 @@ def check_steps(check, page, folder):
     check.check("the left arrow goes to the action before, in the same lane", selected() == "action 2", selected())
     page.press("ArrowRight")
     check.check("the right arrow goes to the next action in the same lane", selected() == "action 3", selected())
-    check.check("the details follow", "was handed event 1" in text_in(page, ".detail") and "Seen" in text_in(page, ".detail"), text_in(page, ".detail"))
+    check.check(
+        "the details follow", "was handed event 1" in text_in(page, ".detail") and "Seen" in text_in(page, ".detail"),
+        text_in(page, ".detail"),
+    )
     page.click_on('.run g[data-id="action 1"] .label')
     check.check("a click selects", selected() == "action 1", selected())
     shown = lambda: page.run("[...document.querySelectorAll('.run g.row')].map((g) => g.dataset.id.slice(7)).join()")
@@ -286,13 +323,20 @@ def check_hostile(check, page, folder):
         page.open(at)
         how = "with the script" if scripts else "without the script"
         check.check(f"no name runs, {how}", page.run("window.ran") is None and not page.errors, page.errors)
-        check.check(f"no name is markup, {how}", page.run("document.querySelectorAll('#app img, #app b, #verdict img, #verdict b, table img, table b, svg[onload]').length") == 0)
+        check.check(
+            f"no name is markup, {how}",
+            page.run("document.querySelectorAll('#app img, #app b, #verdict img, #verdict b, table img, table b, svg[onload]').length")
+            == 0,
+        )
         check.check(f"the title is text, {how}", text_in(page, "h1") == HOSTILE[0], text_in(page, "h1"))
     page.size(1400, 1000)
     page.open(at)
     for _ in range(len(HOSTILE)):
         page.press("ArrowDown")
-    check.check("the names are shown as they are", "</script><script>" in text_in(page, "#verdict") and "<img src=x" in text_in(page, ".log svg.rows"))
+    check.check(
+        "the names are shown as they are",
+        "</script><script>" in text_in(page, "#verdict") and "<img src=x" in text_in(page, ".log svg.rows"),
+    )
     check.check("what would turn the text round is shown as a number", "\\u{202e}twice" in text_in(page, ".log svg.rows"))
     check.check("still nothing ran", page.run("window.ran") is None and not page.errors, page.errors)
 
@@ -303,10 +347,19 @@ def check_still(check, page, folder):
     page.size(1200, 900, scripts=False)
     page.open(at)
     judged = printed("judge", LOG, "--kept", KEPT, "--missed").decode()
-    check.check("the verdict without the script is that of judge", text_in(page, "#verdict li.bad pre") == judged, text_in(page, "#verdict"))
-    check.check("a picture without the script", page.run("[...document.images].filter((one) => one.complete && one.naturalWidth > 100).length") == 1)
-    rows = page.run("[...document.querySelectorAll('#still tr')].map((row) => [...row.cells].map((cell) => cell.textContent + (cell.className && '!')).join('|')).join('\\n')")
-    check.check("a row for each line without the script", rows.count("\n") == 7 and rows.splitlines()[7] == 'line 7||again: "deploy" "v2" @3!|', rows)
+    check.check(
+        "the verdict without the script is that of judge", text_in(page, "#verdict li.bad pre") == judged, text_in(page, "#verdict")
+    )
+    check.check(
+        "a picture without the script", page.run("[...document.images].filter((one) => one.complete && one.naturalWidth > 100).length") == 1
+    )
+    rows = page.run(
+        "[...document.querySelectorAll('#still tr')].map((row) => [...row.cells].map((cell) => cell.textContent + (cell.className && '!')).join('|')).join('\\n')"
+    )
+    check.check(
+        "a row for each line without the script", rows.count("\n") == 7 and rows.splitlines()[7] == 'line 7||again: "deploy" "v2" @3!|',
+        rows,
+    )
     schedule = printed("write", os.path.join(INCIDENT, "as_serf_kept.written"))
     text = printed("replay", "-", "--format", "text", given=schedule).decode()
     check.check("the text of the run without the script", text_in(page, "#still pre") == text, text_in(page, "#still pre"))
@@ -327,7 +380,10 @@ def long_run(path):
     for agent, name in enumerate((b"alpha", b"beta")):
         lines.append({"kind": "agent", "agent": agent, "agent_name": name.decode(), "agent_name_hex": name.hex()})
     for action in range(1, LONG + 1, 2):
-        event = {"time": action, "name": "deploy", "name_hex": "6465706c6f79", "payload": f"v{action}", "payload_hex": f"v{action}".encode().hex()}
+        event = {
+            "time": action, "name": "deploy", "name_hex": "6465706c6f79", "payload": f"v{action}",
+            "payload_hex": f"v{action}".encode().hex(),
+        }
         for agent, name, call, answer, number in ((0, "alpha", "fire", "fired", action), (1, "beta", "deliver", "new", action + 1)):
             who = {"action": number, "agent": agent, "agent_name": name, "agent_name_hex": name.encode().hex()}
             given = event if call == "fire" else {"packet": action - 1, "now": number}
@@ -335,7 +391,12 @@ def long_run(path):
             lines.append({"kind": "sent", "action": number, "packet": number - 1, "packet_hex": "03" * 30, "message": "userEvent\nLTime 1"})
             lines.append({"kind": "event", **who, **event, "coalesce": False})
             lines.append({"kind": "reason", **who, "code": answer, "text": "it is new", **event})
-            lines.append({"kind": "state", **who, "event_clock_before": action, "event_clock": action + 1, "snapshot_from": 0, "snapshot": "", "snapshot_hex": ""})
+            lines.append(
+                {
+                    "kind": "state", **who, "event_clock_before": action, "event_clock": action + 1, "snapshot_from": 0, "snapshot": "",
+                    "snapshot_hex": "",
+                }
+            )
     data = "".join(json.dumps({"version": 1, **line}, separators=(",", ":")) + "\n" for line in lines)
     start, _, rest = page_of(SCHEDULE).partition('id="run-data">\n')
     with open(path, "w", encoding="utf-8") as file:
@@ -352,17 +413,24 @@ def check_long(check, page, folder):
     check.check("the long run is shown before all of it is read", 0 < drawn < VISIBLE and not page.errors, (drawn, page.errors))
     ended(page, "run")
     read = page.run("performance.now() / 1000")
-    print(f"{LONG} actions, {os.path.getsize(at) >> 20} MB: loaded in {seconds:.1f} s, shown {shown:.1f} s after it was opened, and read whole after {read:.1f} s")
+    print(
+        f"{LONG} actions, {os.path.getsize(at) >> 20} MB: loaded in {seconds:.1f} s, shown {shown:.1f} s after it was opened, and read whole after {read:.1f} s"
+    )
     check.check("all actions have a row", page.run("document.getElementById('matches').textContent") == f"{LONG} rows")
     page.press("End")
     check.check("the end is reached", page.run(pane(SELECTED, "run")) == f"action {LONG}", page.run(pane(SELECTED, "run")))
     drawn = page.run(pane(DRAWN, "run"))
     check.check("few rows are drawn at the end", 0 < drawn < VISIBLE, drawn)
-    frame = page.run("(() => { const pane = document.querySelector('.run .scroll'); const start = performance.now(); for (let step = 0; step < 20; step += 1) { pane.scrollTop = step * 100000; pane.dispatchEvent(new Event('scroll')); } return (performance.now() - start) / 20; })()")
+    frame = page.run(
+        "(() => { const pane = document.querySelector('.run .scroll'); const start = performance.now(); for (let step = 0; step < 20; step += 1) { pane.scrollTop = step * 100000; pane.dispatchEvent(new Event('scroll')); } return (performance.now() - start) / 20; })()"
+    )
     print(f"a step of scrolling takes {frame:.0f} ms")
     page.press("/")
     page.write(f"v{LONG - 1} ")
-    check.check("the search finds one of them", page.run("document.getElementById('matches').textContent") == f"2 of {LONG} rows", page.run("document.getElementById('matches').textContent"))
+    check.check(
+        "the search finds one of them", page.run("document.getElementById('matches').textContent") == f"2 of {LONG} rows",
+        page.run("document.getElementById('matches').textContent"),
+    )
     check.check("no error", not page.errors, page.errors)
 
 
@@ -370,7 +438,8 @@ IN_BROWSER = (check_examples, check_logs, check_incident, check_second_life, che
 
 
 def check_shown(check):
-    """Runs the commands of the pages unchanged, except that their output goes elsewhere. Compares the pictures of logs next to the examples with what the command prints."""
+    """Runs the commands of the pages unchanged, except that their output goes elsewhere. Compares the pictures of logs next to the
+    examples with what the command prints."""
     folder = tempfile.mkdtemp(prefix="timeline")
     atexit.register(shutil.rmtree, folder, ignore_errors=True)
     link = os.path.join(folder, "serf-replay")
@@ -383,10 +452,14 @@ def check_shown(check):
         at = os.path.join(folder, name)
         if name == "handlers.svg":
             for example in ("incident", "partition", "leave"):
-                result = subprocess.run(["sh", "-ec", text], cwd=os.path.join(checks.EXAMPLES, example), env=paths, capture_output=True, timeout=checks.LIMIT)
+                result = subprocess.run(
+                    ["sh", "-ec", text], cwd=os.path.join(checks.EXAMPLES, example), env=paths, capture_output=True, timeout=checks.LIMIT
+                )
                 check.check(f"{command.name()}: {example}", result.stdout == checks.read("examples", example, name), result.stderr)
             continue
-        result = subprocess.run(["sh", "-ec", f"{text} > {at}"], cwd=checks.TOP, env=paths, capture_output=True, text=True, timeout=checks.LIMIT)
+        result = subprocess.run(
+            ["sh", "-ec", f"{text} > {at}"], cwd=checks.TOP, env=paths, capture_output=True, text=True, timeout=checks.LIMIT
+        )
         is_whole = result.returncode == 0 and checks.read(at).endswith(b"</html>\n")
         check.check(command.name(), is_whole and not result.stderr, result.stderr)
 

@@ -273,7 +273,9 @@ PACK = "import ast, msgpack, sys; print([msgpack.packb(value, use_bin_type=False
 def packed(values):
     """The bytes of each value as Python's MessagePack writes them, or None if no Python here has it."""
     for python in (sys.executable, "/usr/bin/python3"):
-        end = subprocess.run([python, "-c", PACK], input=repr(values), stdout=subprocess.PIPE, stderr=subprocess.DEVNULL, text=True, check=False)
+        end = subprocess.run(
+            [python, "-c", PACK], input=repr(values), stdout=subprocess.PIPE, stderr=subprocess.DEVNULL, text=True, check=False
+        )
         if end.returncode == 0:
             return ast.literal_eval(end.stdout)
     return None

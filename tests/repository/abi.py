@@ -45,7 +45,9 @@ def constants(body):
 
 def types(arguments):
     """The types of a call's arguments, without their names."""
-    return ", ".join(re.sub(r"\b\w+$", "", each).strip() if re.search(r"[ *]\w+$", each) else each for each in map(plain, arguments.split(",")))
+    return ", ".join(
+        re.sub(r"\b\w+$", "", each).strip() if re.search(r"[ *]\w+$", each) else each for each in map(plain, arguments.split(","))
+    )
 
 
 def declared(text):
@@ -85,7 +87,11 @@ def same(count):
     count.check("the rows have as many", len(old[1]) > 120, len(old[1]))
     for row in old[1]:
         gone = broken((old[0], [row]), new)
-        count.check(f"still declared: {row[:60]}", not gone, f"{row}\nThe SONAME is {new[0]}, as in the last release: bindings/c/README.md says when it changes")
+        count.check(
+            f"still declared: {row[:60]}",
+            not gone,
+            f"{row}\nThe SONAME is {new[0]}, as in the last release: bindings/c/README.md says when it changes",
+        )
     names = re.findall(r"libserf_agent\.so\.\d+\b(?!\.)", text_of("bindings/c/README.md"))
     count.check("bindings/c/README.md: the SONAME", set(names) == {new[0]}, names)
 
@@ -102,7 +108,11 @@ void serf_agent_none(void);
 
 def planted(count):
     old = "lib.so.1", list(declared(HEADER))
-    count.check("planted: the rows", len(old[1]) == 7 and "uint32_t serf_agent_fire(struct serf_agent *, const uint8_t *, size_t, bool)" in old[1], old[1])
+    count.check(
+        "planted: the rows",
+        len(old[1]) == 7 and "uint32_t serf_agent_fire(struct serf_agent *, const uint8_t *, size_t, bool)" in old[1],
+        old[1],
+    )
     for what, before, after, number in (
         ("nothing", "", "", 0),
         ("a comment", "A result", "The result", 0),

@@ -53,7 +53,22 @@ ENDINGS = (
 )
 
 # How a document names a file outside the repository: Serf's own sources, and a reader's files.
-FOREIGN = {"serf.go", "delegate.go", "snapshot.go", "query.go", "messages.go", "local.snapshot", "config.go", "kitchenrue.example/serf", "kitchenrue.example/serfagent", "github.com/hashicorp/serf", "github.com/hashicorp/serf/serf", "src/github.com/hashicorp/serf", "cmd/serf", "TryLockError::WouldBlock"}
+FOREIGN = {
+    "serf.go",
+    "delegate.go",
+    "snapshot.go",
+    "query.go",
+    "messages.go",
+    "local.snapshot",
+    "config.go",
+    "kitchenrue.example/serf",
+    "kitchenrue.example/serfagent",
+    "github.com/hashicorp/serf",
+    "github.com/hashicorp/serf/serf",
+    "src/github.com/hashicorp/serf",
+    "cmd/serf",
+    "TryLockError::WouldBlock",
+}
 
 SPAN = re.compile(r"`([^`\n]+)`")
 LINK = re.compile(r"\[[^\]\n]*\]\(([^)\s]+)\)")

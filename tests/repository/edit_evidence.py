@@ -189,13 +189,7 @@ CHANGES = [
     ("a body below", "crates/serf_low/src/lib.rt", "    a + b", "    b + a", False),
     ("a contract below that is called", "crates/serf_low/src/lib.rt", "ensures sum {", "ensures added {", True),
     ("a contract below that nothing calls", "crates/serf_low/src/lib.rt", "ensures same {", "ensures equal {", False),
-    (
-        "a definition below that the contract reaches",
-        "crates/serf_low/specs/Sum.antt",
-        "total a b = a + b",
-        "total a b = b + a",
-        True,
-    ),
+    ("a definition below that the contract reaches", "crates/serf_low/specs/Sum.antt", "total a b = a + b", "total a b = b + a", True),
     ("a definition below that nothing reaches", "crates/serf_low/specs/Sum.antt", "other a = a", "other a = 0", False),
     ("the edited function", "crates/serf_high/src/lib.rt", "add(a, a)\n}", "add(a, a) \n    + 0\n}", True),
     ("another function's body", "crates/serf_high/src/lib.rt", "    a\n}", "    a + 0\n}", False),
@@ -208,11 +202,29 @@ CHANGES = [
     ("the text of an error", "crates/serf_high/src/lib.rt", "the number {a}", "a number: {a}", False),
     ("a field of a type that it uses", "crates/serf_high/src/lib.rt", "    pub a: u8,", "    pub a: u8, pub b: u8,", True),
     ("the head of an impl of a method that it calls", "crates/serf_high/src/lib.rt", "u8: Shown", "u8: Hidden", True),
-    ("the head of an impl of methods that it doesn't call", "crates/serf_high/src/lib.rt", "impl Pair {", "impl Pair where u8: Shown {", False),
+    (
+        "the head of an impl of methods that it doesn't call",
+        "crates/serf_high/src/lib.rt",
+        "impl Pair {",
+        "impl Pair where u8: Shown {",
+        False,
+    ),
     ("a function of a trait that it calls", "crates/serf_high/src/lib.rt", "ensures counted { ⊤ }", "ensures counted { ⊥ }", True),
-    ("a function of a trait that it neither names nor calls", "crates/serf_high/src/lib.rt", "ensures listed { ⊤ }", "ensures listed { ⊥ }", False),
+    (
+        "a function of a trait that it neither names nor calls",
+        "crates/serf_high/src/lib.rt",
+        "ensures listed { ⊤ }",
+        "ensures listed { ⊥ }",
+        False,
+    ),
     ("an impl below of a trait that is private there", "crates/serf_low/src/lib.rt", "ensures hidden {", "ensures shown {", False),
-    ("an impl below of a public trait that it neither names nor calls", "crates/serf_low/src/lib.rt", "ensures weighed {", "ensures heavy {", False),
+    (
+        "an impl below of a public trait that it neither names nor calls",
+        "crates/serf_low/src/lib.rt",
+        "ensures weighed {",
+        "ensures heavy {",
+        False,
+    ),
     ("how a type that it uses is dropped", "crates/serf_low/src/lib.rt", "ensures dropped {", "ensures gone {", True),
     ("its definition", "crates/serf_high/specs/Twice.antt", "twice a = total a a", "twice a = total a (a + 0)", True),
     ("a comment that names a method", "crates/serf_high/src/lib.rt", "    let pair", "    // (of one)\n    let pair", False),
@@ -464,10 +476,17 @@ def files(count, top):
     count.check("the functions that it names", [it.turns for it in found.values()] == [[], [], ["half"]])
     count.check("a text with spaces before it", found["half_of_nothing"].pairs[0][2] == "    ensures half { result ≡ 0 }")
     several = edit_files.read("it", "file: a\nedit: one\nwhy: it is\nold: b\nnew:\ntwin: c\nold: d\nnew: e\nfile: f\nold: g\nnew: h\n")[0]
-    count.check("several texts", several.pairs == [("a", "b", ""), ("a", "d", "e"), ("f", "g", "h")] and several.twins == ["c", None, None], several.pairs)
+    count.check(
+        "several texts",
+        several.pairs == [("a", "b", ""), ("a", "d", "e"), ("f", "g", "h")] and several.twins == ["c", None, None],
+        several.pairs,
+    )
     for name, text, said in UNREAD:
         count.check(name, said in unread(lambda text=text: edit_files.read("it", text)))
-    for name, text, said in (("one.edit", "", "end in .edits"), ("more.edits", FILES["crates/serf_high/mutants/others.edits"], "have this name")):
+    for name, text, said in (
+        ("one.edit", "", "end in .edits"),
+        ("more.edits", FILES["crates/serf_high/mutants/others.edits"], "have this name"),
+    ):
         write(folder, name, text)
         count.check(f"a file {name}", said in unread(lambda: edit_files.written_in(folder)))
         os.remove(os.path.join(folder, name))
@@ -486,7 +505,9 @@ def words(count):
     """A word that tools/mutants.py doesn't know is reported, and nothing is tried."""
     tool = os.path.join(checks.TOP, "tools", "mutants.py")
     for word in ("--help", "--overci", "serf_nothing"):
-        result = subprocess.run([sys.executable, tool, word], stdout=subprocess.PIPE, stderr=subprocess.PIPE, text=True, timeout=checks.LIMIT)
+        result = subprocess.run(
+            [sys.executable, tool, word], stdout=subprocess.PIPE, stderr=subprocess.PIPE, text=True, timeout=checks.LIMIT
+        )
         count.check(f"mutants.py {word}", result.returncode == 2 and not result.stdout and "[CRATE..]" in result.stderr, result)
 
 

@@ -129,7 +129,10 @@ def printed(count):
             ran = run(*words)
             names = re.findall(r"^  (\w+)(?::| \()", ran.stdout.partition("the stores of C")[0], re.M)
             count.check(command.name(), ran.returncode == 0 and names == [name for own in wanted.values() for name in own], ran.stderr)
-        count.check(f"{command.name()}: what a wrong body does", "  compares_time_alone: a second event of a time is dropped (window::verdict_in; " in run("serf_window").stdout)
+        count.check(
+            f"{command.name()}: what a wrong body does",
+            "  compares_time_alone: a second event of a time is dropped (window::verdict_in; " in run("serf_window").stdout,
+        )
         count.check(f"{command.name()}: no such crate", run("serf_none").returncode == 2)
 
 

@@ -57,7 +57,10 @@ def costs(count):
 
 
 def too_long(count):
-    cold, kept = "rt: serf_wire proved\nrt: serf_high proved\n", "rt: serf_pack is kept: an earlier run on this machine proved the same files\n"
+    cold, kept = (
+        "rt: serf_wire proved\nrt: serf_high proved\n",
+        "rt: serf_pack is kept: an earlier run on this machine proved the same files\n",
+    )
     for name, said, seconds, processors, is_fault in (
         ("a cold gate in its time", cold, gate.LONGEST, 2, False),
         ("a cold gate that took longer", cold, gate.LONGEST + 1, 2, True),
@@ -114,7 +117,11 @@ def said_first(count):
     script = checks.gate_script()
     with contextlib.redirect_stdout(io.StringIO()) as said:
         script.say_first(cluster())
-    count.check("it prints first how long it took elsewhere", " 5 processor minutes " in said.getvalue() and "4 crates" in said.getvalue(), said.getvalue())
+    count.check(
+        "it prints first how long it took elsewhere",
+        " 5 processor minutes " in said.getvalue() and "4 crates" in said.getvalue(),
+        said.getvalue(),
+    )
 
 
 def whole(count):

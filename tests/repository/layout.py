@@ -33,7 +33,15 @@ def copied(crate, crates):
 
 def laid_out(crate):
     """The files that `rt fmt` changes in a folder, and whether it succeeded."""
-    result = subprocess.run(["rt", "fmt"], cwd=crate, stdin=subprocess.DEVNULL, stdout=subprocess.PIPE, stderr=subprocess.STDOUT, text=True, timeout=checks.LIMIT)
+    result = subprocess.run(
+        ["rt", "fmt"],
+        cwd=crate,
+        stdin=subprocess.DEVNULL,
+        stdout=subprocess.PIPE,
+        stderr=subprocess.STDOUT,
+        text=True,
+        timeout=checks.LIMIT,
+    )
     return FORMATTED.findall(result.stdout), result.returncode == 0
 
 

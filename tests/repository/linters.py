@@ -33,7 +33,17 @@ LEFT_OUT = "SC2015,SC2016"
 # The rules that the scripts of pages have to keep.
 IN_SCRIPTS = dict.fromkeys(
     (
-        *("no-unused-vars", "no-undef", "no-shadow", "no-redeclare", "no-unreachable", "no-dupe-keys", "no-fallthrough", "no-var", "prefer-const"),
+        *(
+            "no-unused-vars",
+            "no-undef",
+            "no-shadow",
+            "no-redeclare",
+            "no-unreachable",
+            "no-dupe-keys",
+            "no-fallthrough",
+            "no-var",
+            "prefer-const",
+        ),
         *("eqeqeq", "no-eval", "no-implied-eval", "no-new-func", "no-script-url", "no-loop-func", "no-return-assign", "no-throw-literal"),
     ),
     "error",
@@ -43,7 +53,13 @@ IN_SCRIPTS = dict.fromkeys(
 GO_CODE = "/usr/share/gocode"
 IN_GO = (
     *("agent", "bindings/go/guard", "bindings/go/serf", "bindings/go/serfagent", "bindings/go/example", "bindings/go/beside_serf"),
-    *("bindings/go/burst_driver", "bindings/go/starved_driver", "bindings/go/store_driver", "tests/library/simulation", "tests/library/rpc_client"),
+    *(
+        "bindings/go/burst_driver",
+        "bindings/go/starved_driver",
+        "bindings/go/store_driver",
+        "tests/library/simulation",
+        "tests/library/rpc_client",
+    ),
 )
 
 
@@ -67,7 +83,9 @@ def first_line(path):
 
 def lines_of(form, words, folder=TOP, env=None):
     """The lines of this form that a linter prints, or its whole text if it fails without any."""
-    result = subprocess.run(words, cwd=folder, env=env, stdin=subprocess.DEVNULL, stdout=subprocess.PIPE, stderr=subprocess.STDOUT, text=True)
+    result = subprocess.run(
+        words, cwd=folder, env=env, stdin=subprocess.DEVNULL, stdout=subprocess.PIPE, stderr=subprocess.STDOUT, text=True
+    )
     found = [line for line in result.stdout.splitlines() if re.search(form, line)]
     return found or ([result.stdout] if result.returncode else [])
 
@@ -128,7 +146,9 @@ def pyflakes(paths, folder=TOP):
 
 def mypy(paths, folder, *more):
     """What mypy finds. It doesn't follow the scripts that a file calls, or those of a folder that it adds to the path."""
-    return lines_of(r": error: ", [tool("mypy"), "--cache-dir", os.devnull, "--ignore-missing-imports", *more, *paths], os.path.join(TOP, folder))
+    return lines_of(
+        r": error: ", [tool("mypy"), "--cache-dir", os.devnull, "--ignore-missing-imports", *more, *paths], os.path.join(TOP, folder)
+    )
 
 
 def strict_mypy(paths, folder):
@@ -168,7 +188,18 @@ def shellcheck(paths, folder=TOP):
 
 def eslint(paths, folder=TOP):
     """What eslint finds, by its own rules for errors and a few more. It needs no settings of the repository's."""
-    words = [tool("eslint"), "-f", "unix", "--no-eslintrc", "--env", "browser,es2020", "--parser-options", "ecmaVersion:2020", "--rule", json.dumps(IN_SCRIPTS)]
+    words = [
+        tool("eslint"),
+        "-f",
+        "unix",
+        "--no-eslintrc",
+        "--env",
+        "browser,es2020",
+        "--parser-options",
+        "ecmaVersion:2020",
+        "--rule",
+        json.dumps(IN_SCRIPTS),
+    ]
     # Debian's eslint finds its parts there, whichever program `node` is
     parts = {**os.environ, "NODE_PATH": "/usr/share/nodejs:/usr/lib/nodejs"}
     return lines_of(r":\d+:\d+: ", [*words, *paths], folder, parts)

@@ -19,7 +19,22 @@ from checks import TOP, text_of
 import one_crate
 
 # The scripts that need more than the crates: a node in Go, an agent, a release.
-OF_MORE = {f"tests/library/{name}.py" for name in ("agent", "attested", "beside_serf", "go_mutants", "kept_cluster", "packages", "rpc_client", "serf_package", "simulation", "snapshot_lives", "filler_stock_serf")}
+OF_MORE = {
+    f"tests/library/{name}.py"
+    for name in (
+        "agent",
+        "attested",
+        "beside_serf",
+        "go_mutants",
+        "kept_cluster",
+        "packages",
+        "rpc_client",
+        "serf_package",
+        "simulation",
+        "snapshot_lives",
+        "filler_stock_serf",
+    )
+}
 
 
 def rows(count):
@@ -29,7 +44,12 @@ def rows(count):
         missing = [name for name in (*one_crate.FORM, *names) if not os.path.isfile(os.path.join(TOP, name))]
         count.check(f"{crate}: its scripts exist", not missing, missing)
     named = {name for names in one_crate.SCRIPTS.values() for name in names}
-    there = {f"tests/{folder}/{name}" for folder in ("program", "library") for name in os.listdir(os.path.join(TOP, "tests", folder)) if name.endswith(".py")}
+    there = {
+        f"tests/{folder}/{name}"
+        for folder in ("program", "library")
+        for name in os.listdir(os.path.join(TOP, "tests", folder))
+        if name.endswith(".py")
+    }
     count.check("each script has a crate", there - OF_MORE == named - {"tests/repository/one_run.py"}, there - OF_MORE ^ named)
 
 
@@ -63,7 +83,9 @@ def installs(count):
                 with open(path, "w", encoding="utf-8") as file:
                     file.write(f"#!/bin/sh\n{text}\n")
                 os.chmod(path, 0o755)
-            result = subprocess.run(["/bin/bash", os.path.join(TOP, "tools", "packages")], env={"PATH": folder}, capture_output=True, text=True)
+            result = subprocess.run(
+                ["/bin/bash", os.path.join(TOP, "tools", "packages")], env={"PATH": folder}, capture_output=True, text=True
+            )
             count.check(f"what is installed for the user {user}", result.returncode == 1 and result.stderr.startswith(said), result)
         count.check("what could not be installed", "apt-get could not install golang-go" not in result.stderr, result)
 

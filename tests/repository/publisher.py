@@ -28,14 +28,18 @@ OTHERS = {
 
 
 def run_publisher(top, *words):
-    result = subprocess.run([sys.executable, os.path.join(top, "tools", "publisher.py"), *words], stdin=subprocess.DEVNULL, capture_output=True, text=True)
+    result = subprocess.run(
+        [sys.executable, os.path.join(top, "tools", "publisher.py"), *words], stdin=subprocess.DEVNULL, capture_output=True, text=True
+    )
     return result.returncode, result.stdout, result.stderr
 
 
 def copy_repository(root):
     """A copy of what is in the repository, as a repository."""
     top = os.path.join(root, "copy")
-    for path in subprocess.run(["git", "ls-files", "-z", "-co", "--exclude-standard"], cwd=TOP, check=True, stdout=subprocess.PIPE, text=True).stdout.split("\0"):
+    for path in subprocess.run(
+        ["git", "ls-files", "-z", "-co", "--exclude-standard"], cwd=TOP, check=True, stdout=subprocess.PIPE, text=True
+    ).stdout.split("\0"):
         if path and os.path.isfile(os.path.join(TOP, path)):
             os.makedirs(os.path.dirname(os.path.join(top, path)), exist_ok=True)
             shutil.copy(os.path.join(TOP, path), os.path.join(top, path), follow_symlinks=False)
@@ -53,7 +57,14 @@ def changed(count):
         count.check("other values are set", status == 0, error)
         count.check("PUBLISHER has them", publisher.values(top) == OTHERS, publisher.values(top))
         files = output.splitlines()
-        for path in ("PUBLISHER", "bindings/rust/Cargo.toml", "bindings/python/pyproject.toml", "bindings/go/serfagent/go.mod", "agent/build", "README.md"):
+        for path in (
+            "PUBLISHER",
+            "bindings/rust/Cargo.toml",
+            "bindings/python/pyproject.toml",
+            "bindings/go/serfagent/go.mod",
+            "agent/build",
+            "README.md",
+        ):
             count.check(f"{path} is changed", path in files, files)
         left = [path for path in publisher.committed(top) if old["modules"].encode() in checks.read(top, path)]
         count.check("nothing of the old values is left", not left, left)
@@ -71,7 +82,9 @@ def in_go(count, top):
     env = {**os.environ, "GOFLAGS": "-mod=mod", "GOPROXY": "off", "GO111MODULE": "on"}
     result = subprocess.run(["go", "list", "./..."], cwd=os.path.join(top, "bindings", "go"), env=env, capture_output=True, text=True)
     names = result.stdout.split()
-    count.check("Go finds the programs", result.returncode == 0 and f"{OTHERS['modules']}/programs/example" in names, (names, result.stderr))
+    count.check(
+        "Go finds the programs", result.returncode == 0 and f"{OTHERS['modules']}/programs/example" in names, (names, result.stderr)
+    )
     result = subprocess.run(["gofmt", "-l", "bindings/go", "agent"], cwd=top, capture_output=True, text=True)
     count.check("the sources in Go are formatted", (result.returncode, result.stdout) == (0, ""), result.stdout)
 
@@ -87,7 +100,11 @@ def refused(count):
         status, output, told = run_publisher(TOP, word)
         count.check(f"refused: {word}", (status, output) == (2, "") and error in told, (status, told))
     status, output, _ = run_publisher(TOP)
-    count.check("the values are printed", status == 0 and output == "".join(f"{name} {value}\n" for name, value in publisher.values().items()), output)
+    count.check(
+        "the values are printed",
+        status == 0 and output == "".join(f"{name} {value}\n" for name, value in publisher.values().items()),
+        output,
+    )
 
 
 if __name__ == "__main__":

@@ -57,7 +57,9 @@ def clone(root):
 
 def verdicts_of(top):
     """A record of verdicts, as the gate writes it."""
-    return verdicts.text_of("a toolchain", {name: (verdicts.hash_of_sources(top, name), f"logic=proved functions={len(name)}") for name in verdicts.crates(top)})
+    return verdicts.text_of(
+        "a toolchain", {name: (verdicts.hash_of_sources(top, name), f"logic=proved functions={len(name)}") for name in verdicts.crates(top)}
+    )
 
 
 def compile_library(path, compiler="cc"):
@@ -102,7 +104,11 @@ def refused(count, top, root):
 def unmade(count, top, root):
     """It prints a sentence if nothing can be written, if there is no compiler, and if there is no make."""
     status, output = release(top, "/proc/none")
-    count.check("refused if nothing can be written", status == 3 and re.fullmatch(r"release: /proc/none/\S+: No such file or directory\n", output), output)
+    count.check(
+        "refused if nothing can be written",
+        status == 3 and re.fullmatch(r"release: /proc/none/\S+: No such file or directory\n", output),
+        output,
+    )
     status, output = release(top, os.path.join(root, "none"), CC="none")
     count.check("refused without a compiler", status == 3 and "there is no C compiler none on PATH" in output, (status, output))
     few = os.path.join(root, "few")
@@ -153,7 +159,8 @@ def other_proofs(count, top, root):
 
 
 def recorded_verdicts(count):
-    """What is recorded of the output of `rt ci`: the last line of a proof, and of a kept proof the line that an earlier run recorded for the same sources."""
+    """What is recorded of the output of `rt ci`: the last line of a proof, and of a kept proof the line that an earlier run recorded
+    for the same sources."""
     said = (
         "logic=proved tests=2\nlogic=proved functions=7\nrt: one proved\nrt: must-fail two/a: refused, as it must be\n"
         "rt: two is kept: an earlier run on this machine proved the same files\nlogic=proved functions=9\nnot this\nrt: three proved\n"
@@ -184,7 +191,9 @@ def twice_the_same(count, top, root, own_key):
         count.check(f"release {name}", status == 0, output)
     names = sorted(os.listdir(os.path.join(root, "one")))
     wheels = [name for name in names if name.endswith(".whl")]
-    count.check("its files", names == sorted([f"{NAME}.tar.gz", PACKAGE, SDIST, BILL, SUMS, f"{SUMS}.sig", *wheels]) and len(wheels) == 1, names)
+    count.check(
+        "its files", names == sorted([f"{NAME}.tar.gz", PACKAGE, SDIST, BILL, SUMS, f"{SUMS}.sig", *wheels]) and len(wheels) == 1, names
+    )
     for name in names:
         same = filecmp.cmp(os.path.join(root, "one", name), os.path.join(root, "two", name), shallow=False)
         count.check(f"{name}: twice the same bytes", same)
@@ -207,7 +216,9 @@ def verified(count, top, root, signers):
         count.check(f"--verify: {what}", status == 1 and re.search(error, output), (status, output))
 
     for name in sorted(os.listdir(one)):
-        error = {SUMS: "is no signature of|is not in|is missing", f"{SUMS}.sig": "is by no key of|is no signature of"}.get(name, "has another sum than")
+        error = {SUMS: "is no signature of|is not in|is missing", f"{SUMS}.sig": "is by no key of|is no signature of"}.get(
+            name, "has another sum than"
+        )
         changed(f"a changed byte of {name}", lambda name=name: flip(os.path.join(copy, name)), error)
     changed("a missing file", lambda: os.remove(os.path.join(copy, PACKAGE)), f"{PACKAGE} is missing")
     changed("a file more", lambda: write(os.path.join(copy, "more"), "more"), "more is not in SHA256SUMS")
@@ -215,7 +226,11 @@ def verified(count, top, root, signers):
     changed("another file with its own sum", lambda: replace_with_sum(copy, PACKAGE, b"another"), "is no signature of")
     unsigned = f"^not checked: the signature, without --signers\n{re.escape(PACKAGE)} is not what this clone makes\n{SUMS} is not"
     changed("another file, without signers", lambda: replace_with_sum(copy, PACKAGE, b"another"), unsigned, ())
-    changed("another file in the archive", lambda: replace_with_sum(copy, f"{NAME}.tar.gz", with_more(os.path.join(one, f"{NAME}.tar.gz"))), "more is not in SHA256SUMS")
+    changed(
+        "another file in the archive",
+        lambda: replace_with_sum(copy, f"{NAME}.tar.gz", with_more(os.path.join(one, f"{NAME}.tar.gz"))),
+        "more is not in SHA256SUMS",
+    )
     write(f"{signers}.other", "other@host.example " + checks.text_of(root, "other.pub"))
     status, output = run_release(top, "--verify", one, "--signers", f"{signers}.other")
     count.check("--verify: another signer", status == 1 and "is by no key of" in output, (status, output))
@@ -239,7 +254,11 @@ def unreadable(count, top, root, one):
         count.check(f"refused: the command line {' '.join(words[:1])}", status == 2 and output.startswith("usage: "), (status, output))
     os.remove(green.mark_path(top))
     status, output = run_release(top, "--verify", one)
-    count.check("--verify without a green gate", status == 0 and "not checked: the same bytes again: ./test has not passed here" in output, (status, output))
+    count.check(
+        "--verify without a green gate",
+        status == 0 and "not checked: the same bytes again: ./test has not passed here" in output,
+        (status, output),
+    )
     green.record_green(top, green.state(top))
 
 
@@ -266,18 +285,35 @@ def bill(count, top, root):
     """The bill of materials names each file with its sum, the toolchain, and what the agent is linked with."""
     read = json.loads(checks.text_of(root, "one", BILL))
     packages = {it["name"]: it for it in read["packages"]}
-    count.check("the bill is SPDX 2.3", (read["spdxVersion"], read["dataLicense"], read["SPDXID"]) == ("SPDX-2.3", "CC0-1.0", "SPDXRef-DOCUMENT"), read)
+    count.check(
+        "the bill is SPDX 2.3",
+        (read["spdxVersion"], read["dataLicense"], read["SPDXID"]) == ("SPDX-2.3", "CC0-1.0", "SPDXRef-DOCUMENT"),
+        read,
+    )
     sums = dict(reversed(line.split("  ")) for line in checks.text_of(root, "one", SUMS).splitlines())
     for name, digest in sums.items():
         if name != BILL:
-            count.check(f"the bill has {name}", packages[name]["checksums"] == [{"algorithm": "SHA256", "checksumValue": digest}], packages.get(name))
-    for name in ("rattle-toolchain", "rattle-crate-thiserror", "golang-github-hashicorp-memberlist-dev", "golang-github-hashicorp-serf-dev"):
+            count.check(
+                f"the bill has {name}",
+                packages[name]["checksums"] == [{"algorithm": "SHA256", "checksumValue": digest}],
+                packages.get(name),
+            )
+    for name in (
+        "rattle-toolchain",
+        "rattle-crate-thiserror",
+        "golang-github-hashicorp-memberlist-dev",
+        "golang-github-hashicorp-serf-dev",
+    ):
         count.check(f"the bill has {name}", name in packages, sorted(packages))
     owned = packages["golang-github-hashicorp-memberlist-dev"]
     count.check("its licence", owned["licenseDeclared"] == "MPL-2.0", owned)
     contained = {(it["spdxElementId"], it["relatedSpdxElement"]) for it in read["relationships"] if it["relationshipType"] == "CONTAINS"}
     wheel, packed = (next(it["SPDXID"] for name, it in packages.items() if name.endswith(ending)) for ending in (".whl", "-linux.tar.gz"))
-    for name, is_in_wheel in (("rattle-crate-thiserror", True), ("rattle-crate-clap", False), ("golang-github-hashicorp-memberlist-dev", False)):
+    for name, is_in_wheel in (
+        ("rattle-crate-thiserror", True),
+        ("rattle-crate-clap", False),
+        ("golang-github-hashicorp-memberlist-dev", False),
+    ):
         count.check(f"the archive contains {name}", (packed, packages[name]["SPDXID"]) in contained)
         count.check(f"the wheel contains {name}: {is_in_wheel}", ((wheel, packages[name]["SPDXID"]) in contained) == is_in_wheel)
     names = [it["SPDXID"] for it in read["packages"]]
@@ -285,7 +321,11 @@ def bill(count, top, root):
     related = {it[end] for it in read["relationships"] for end in ("spdxElementId", "relatedSpdxElement")}
     count.check("each relation is between two of them", len(set(names)) == len(names) and related <= known, related - known)
     commit = green.git(top, "rev-parse", "HEAD")
-    count.check("its namespace has the commit", read["documentNamespace"] == f"{publisher.values()['repository']}/spdx/{VERSION}/{commit}", read["documentNamespace"])
+    count.check(
+        "its namespace has the commit",
+        read["documentNamespace"] == f"{publisher.values()['repository']}/spdx/{VERSION}/{commit}",
+        read["documentNamespace"],
+    )
 
 
 def packed_agent(count, root):
@@ -359,25 +399,57 @@ def for_two_processors(count, top, root):
         print(f"not run: a release for aarch64, since {' and '.join(lacks)} is not on PATH")
         return
     out = os.path.join(top, "crates", "serf_agent_c", "out")
-    sources = subprocess.run([sys.executable, "-c", "import targets; print(targets.of_sources(), end='')"], cwd=os.path.join(top, "tools"), check=True, stdout=subprocess.PIPE, text=True).stdout
+    sources = subprocess.run(
+        [sys.executable, "-c", "import targets; print(targets.of_sources(), end='')"],
+        cwd=os.path.join(top, "tools"),
+        check=True,
+        stdout=subprocess.PIPE,
+        text=True,
+    ).stdout
     for target, compiler in (("x86_64", "cc"), ("aarch64", "aarch64-linux-gnu-gcc")):
         compile_library(os.path.join(out, target, "libserf_agent_c.a"), compiler)
-        for name, text in (("serf_agent_c.ll", f"define i32 @of_{target}() {{ ret i32 1 }}\n"), ("flags", "-O3\n"), ("verdict", f"logic=proved target={target}\n"), ("sources", sources)):
+        for name, text in (
+            ("serf_agent_c.ll", f"define i32 @of_{target}() {{ ret i32 1 }}\n"),
+            ("flags", "-O3\n"),
+            ("verdict", f"logic=proved target={target}\n"),
+            ("sources", sources),
+        ):
             write(os.path.join(out, target, name), text)
     status, said = release(top, os.path.join(root, "both"))
     count.check("a release for two processors", status == 0, said)
     names = os.listdir(os.path.join(root, "both"))
-    count.check("its packages for aarch64", f"kitchenrue-agent_{VERSION}_arm64.deb" in names and any(name.endswith("_aarch64.whl") for name in names), names)
-    said = subprocess.run(["dpkg-deb", "-f", os.path.join(root, "both", f"kitchenrue-agent_{VERSION}_arm64.deb"), "Architecture"], capture_output=True, text=True)
+    count.check(
+        "its packages for aarch64",
+        f"kitchenrue-agent_{VERSION}_arm64.deb" in names and any(name.endswith("_aarch64.whl") for name in names),
+        names,
+    )
+    said = subprocess.run(
+        ["dpkg-deb", "-f", os.path.join(root, "both", f"kitchenrue-agent_{VERSION}_arm64.deb"), "Architecture"],
+        capture_output=True,
+        text=True,
+    )
     count.check("the package's architecture", said.stdout == "arm64\n", said)
     with tarfile.open(os.path.join(root, "both", SDIST)) as tar:
         inside = tar.getnames()
-    count.check("the source package has both libraries", {f"serf_agent-{VERSION}/native/{name}libserf_agent_c.a" for name in ("", "aarch64/")} <= set(inside), inside)
+    count.check(
+        "the source package has both libraries",
+        {f"serf_agent-{VERSION}/native/{name}libserf_agent_c.a" for name in ("", "aarch64/")} <= set(inside),
+        inside,
+    )
     with tarfile.open(os.path.join(root, "both", f"{NAME}.tar.gz")) as tar:
         inside = {name.partition("/")[2] for name in tar.getnames()}
     for path in (
-        *("lib/aarch64/libserf_agent_c.a", "bindings/rust/sys/native/aarch64/libserf_agent_c.a", "bindings/go/serfagent/libserf_agent_c_arm64.a"),
-        *(f"{place}/{target}/{name}" for place in ("bindings/source", "bindings/rust/sys/source") for target in ("x86_64", "aarch64") for name in ("serf_agent_c.ll", "flags", "verdict", "digests")),
+        *(
+            "lib/aarch64/libserf_agent_c.a",
+            "bindings/rust/sys/native/aarch64/libserf_agent_c.a",
+            "bindings/go/serfagent/libserf_agent_c_arm64.a",
+        ),
+        *(
+            f"{place}/{target}/{name}"
+            for place in ("bindings/source", "bindings/rust/sys/source")
+            for target in ("x86_64", "aarch64")
+            for name in ("serf_agent_c.ll", "flags", "verdict", "digests")
+        ),
         *("bindings/source/build", "bindings/source/README.md"),
     ):
         count.check(f"the archive has {path}", path in inside)
@@ -385,7 +457,11 @@ def for_two_processors(count, top, root):
     write(os.path.join(out, "aarch64", "sources"), "others")
     status, said = release(top, os.path.join(root, "one more"))
     found = sorted(os.listdir(os.path.join(root, "one more")))
-    count.check("without aarch64, if it is of other sources", status == 0 and not any("arm64" in name or "aarch64" in name for name in found), (said, found))
+    count.check(
+        "without aarch64, if it is of other sources",
+        status == 0 and not any("arm64" in name or "aarch64" in name for name in found),
+        (said, found),
+    )
 
 
 def archives(count):

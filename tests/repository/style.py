@@ -120,7 +120,11 @@ def style(count):
     count.check("the rows", maximum.keys() == found.keys(), maximum.keys() ^ found.keys())
     names = {phrase.name for phrase in PHRASES}
     for exception in allowed:
-        count.check(f"an exception of {exception.phrase!r}", exception.phrase in names and exception.reason, "has no such kind of word, or no reason")
+        count.check(
+            f"an exception of {exception.phrase!r}",
+            exception.phrase in names and exception.reason,
+            "has no such kind of word, or no reason",
+        )
         if not exception.met:
             print(f"the exception of {exception.phrase!r} in {exception.files} is met nowhere: remove its line")
 
@@ -220,7 +224,9 @@ def main(words):
         shown = all_found(exceptions())[words[1]]
     elif len(words) == 2 and words[0] == "--since":
         lines = changed_lines(words[1])
-        shown = [exception for own in all_found(exceptions()).values() for exception in own if exception.line in lines.get(exception.path, ())]
+        shown = [
+            exception for own in all_found(exceptions()).values() for exception in own if exception.line in lines.get(exception.path, ())
+        ]
     else:
         print(__doc__.strip(), file=sys.stderr)
         return 2

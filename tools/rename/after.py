@@ -74,8 +74,8 @@ def break_of(line):
 
 
 def spans(text):
-    """The tokens of a text, each with the places at which it begins and ends. A comma before a closing bracket counts for nothing, as the layout
-    adds and takes them."""
+    """The tokens of a text, each with the places at which it begins and ends. A comma before a closing bracket counts for nothing, as
+    the layout adds and takes them."""
     found = [(token[0], token.start(), token.end()) for token in TOKEN.finditer(text)]
     return [one for at, one in enumerate(found) if not (one[0] == "," and at + 1 < len(found) and found[at + 1][0] in ")]}")]
 

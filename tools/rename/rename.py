@@ -43,8 +43,10 @@ COMMENT = re.compile(r"\s*(?:--|//|#|/?\*)")
 SHOWN = re.compile(r"(?<=(?<!\{)\{)[a-z_]\w*(?=[:}])")
 
 # Names of the language, of derives and of traits of std whose methods the repository's types have.
-RESERVED = set("as in data where fn let mut ref self Self match if else for while loop return use mod pub impl trait struct enum type const "
-               "static move ghost ensures requires abbrev record with then cond refl".split())
+RESERVED = set(
+    "as in data where fn let mut ref self Self match if else for while loop return use mod pub impl trait struct enum type const "
+    "static move ghost ensures requires abbrev record with then cond refl".split()
+)
 
 
 def tracked():

@@ -12,7 +12,10 @@ from .handlers import begun_line, done_line, done_up_to_line, open_events, open_
 from .intents import intent, intent_error, Join, Leave
 from .library import Code, DEFAULT_QUERY_TIMEOUT, DEFAULT_SNAPSHOT_LIMIT, PacketErrorKind, Library, NotLoaded, Reason
 from .members import Members, state_members
-from .results import Answer, Clocks, Closed, Event, Fired, FiredQuery, Foreign, Ignored, PendingQuery, Received, ReceivedAck, ReceivedEvent, ReceivedPushPull, ReceivedQuery, ReceivedResponse
+from .results import (
+    Answer, Clocks, Closed, Event, Fired, FiredQuery, Foreign, Ignored, PendingQuery, Received, ReceivedAck, ReceivedEvent,
+    ReceivedPushPull, ReceivedQuery, ReceivedResponse,
+)
 from .settings import Settings
 from .store import Broken, Full, Locked, MissingFolder, NotAFile, ReadOnly, Store, StoreError
 

@@ -11,8 +11,14 @@ from typing import Deque, Iterable, Iterator, List, Optional, Tuple
 from .burst import Burst, Call, c_params
 from .checks import Buffer, as_bytes, checked_bool, checked_integer, text_arguments
 from .errors import AgentError
-from .library import CAnswer, CBytes, CClocks, CClosed, CEvent, CResult, CPendingQuery, Code, COUNTS, CParams, CResponse, CSettings, DEFAULT_QUERY_TIMEOUT, DEFAULT_SNAPSHOT_LIMIT, FLAGS, Handle, Kind, Library, Reason
-from .results import Answer, Clocks, Closed, Event, Fired, FiredQuery, Foreign, Ignored, PendingQuery, Received, ReceivedAck, ReceivedEvent, ReceivedPushPull, ReceivedQuery, ReceivedResponse
+from .library import (
+    CAnswer, CBytes, CClocks, CClosed, CEvent, CResult, CPendingQuery, Code, COUNTS, CParams, CResponse, CSettings,
+    DEFAULT_QUERY_TIMEOUT, DEFAULT_SNAPSHOT_LIMIT, FLAGS, Handle, Kind, Library, Reason,
+)
+from .results import (
+    Answer, Clocks, Closed, Event, Fired, FiredQuery, Foreign, Ignored, PendingQuery, Received, ReceivedAck, ReceivedEvent,
+    ReceivedPushPull, ReceivedQuery, ReceivedResponse,
+)
 from .settings import Settings, out_of_bounds
 from .store import Path, Store
 

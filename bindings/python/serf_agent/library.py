@@ -164,7 +164,14 @@ class CSettings(Structure):
 
 
 class CResult(Structure):
-    _fields_ = [("kind", c_uint32), ("reason", c_uint32), ("handed", c_uint64), ("events", c_size_t), ("foreign", c_uint8), ("rebroadcast", c_bool)]
+    _fields_ = [
+        ("kind", c_uint32),
+        ("reason", c_uint32),
+        ("handed", c_uint64),
+        ("events", c_size_t),
+        ("foreign", c_uint8),
+        ("rebroadcast", c_bool),
+    ]
 
 
 class CBytes(Structure):
@@ -342,7 +349,9 @@ def remedy(path: str, error: str) -> str:
     if "GLIBC_" in error:
         return "; the C library of this system is older than the one that it was linked with: install the source package, serf_agent-VERSION.tar.gz, which links it here"
     if path == WHEEL_LIBRARY:
-        return "; if this system has another C library than glibc, install the source package, serf_agent-VERSION.tar.gz, which links it here"
+        return (
+            "; if this system has another C library than glibc, install the source package, serf_agent-VERSION.tar.gz, which links it here"
+        )
     return ""
 
 
@@ -350,7 +359,9 @@ def load_library(path: str) -> ctypes.CDLL:
     """Loads the shared library at a path."""
     system, machine = platform.system(), platform.machine()
     if system != "Linux" or machine not in ("x86_64", "aarch64"):
-        raise NotLoaded(f"serf_agent: the library is for Linux on x86-64 or aarch64, and this system is {system} on {machine}: install it in a machine or a container of that kind")
+        raise NotLoaded(
+            f"serf_agent: the library is for Linux on x86-64 or aarch64, and this system is {system} on {machine}: install it in a machine or a container of that kind"
+        )
     try:
         return ctypes.CDLL(path)
     except OSError as error:

@@ -167,7 +167,12 @@ STATE_FIELDS = {
     "Events": (list_of(slot), []),
     "QueryLTime": (clock, 0),
 }
-KINDS = {PUSH_PULL: (PushPull, STATE_FIELDS), USER_EVENT: (UserEvent, EVENT_FIELDS), QUERY: (Query, QUERY_FIELDS), RESPONSE: (Response, RESPONSE_FIELDS)}
+KINDS = {
+    PUSH_PULL: (PushPull, STATE_FIELDS),
+    USER_EVENT: (UserEvent, EVENT_FIELDS),
+    QUERY: (Query, QUERY_FIELDS),
+    RESPONSE: (Response, RESPONSE_FIELDS),
+}
 
 
 def decode(packet):

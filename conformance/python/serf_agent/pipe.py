@@ -61,7 +61,13 @@ CALLS = {
     "state": lambda agent, words: agent.state(),
     "merge": lambda agent, words: agent.merge(unhexed(words[0]), words[1] == b"join"),
     "query": lambda agent, words: agent.query(
-        int(words[0]), int(words[1]), unhexed(words[2]), unhexed(words[3]), int(words[4]), int(words[5]), [unhexed(word) for word in words[6:]]
+        int(words[0]),
+        int(words[1]),
+        unhexed(words[2]),
+        unhexed(words[3]),
+        int(words[4]),
+        int(words[5]),
+        [unhexed(word) for word in words[6:]],
     ),
     "respond": lambda agent, words: agent.respond(int(words[0]), int(words[1]), unhexed(words[2])),
     "close": lambda agent, words: agent.close(int(words[0])),

@@ -18,7 +18,18 @@ import pages
 from checks import TOP
 
 # What agent/build and agent/package/deb read from the repository, and the handler of docs/INCIDENT.md.
-PARTS = ("agent", "bindings/go/guard", "bindings/go/serf", "bindings/go/serfagent", "docs/AGENT.md", "CHANGELOG.md", "LICENSE", "PUBLISHER", "VERSION", "examples/serf_log_handler.sh")
+PARTS = (
+    "agent",
+    "bindings/go/guard",
+    "bindings/go/serf",
+    "bindings/go/serfagent",
+    "docs/AGENT.md",
+    "CHANGELOG.md",
+    "LICENSE",
+    "PUBLISHER",
+    "VERSION",
+    "examples/serf_log_handler.sh",
+)
 
 # A stand-in for the reader's own handlers: it writes down which agent ran it, and what it read.
 HANDLER = '#!/bin/sh\necho "$SERF_SELF_NAME $(cat)" >>"$(dirname "$0")/ran"\n'
@@ -57,7 +68,9 @@ class Stage:
             os.mkdir(path)
         for part in PARTS:
             os.makedirs(os.path.dirname(os.path.join(self.top, part)), exist_ok=True)
-            (shutil.copytree if os.path.isdir(os.path.join(TOP, part)) else shutil.copy)(os.path.join(TOP, part), os.path.join(self.top, part))
+            (shutil.copytree if os.path.isdir(os.path.join(TOP, part)) else shutil.copy)(
+                os.path.join(TOP, part), os.path.join(self.top, part)
+            )
         os.symlink(os.path.join(library, "libserf_agent_c.a"), os.path.join(self.top, "lib", "libserf_agent_c.a"))
         shutil.copy(os.path.join(TOP, "examples", "serf_log_handler.sh"), self.bin)
         for name in ("deploy", "deploy.sh"):
@@ -162,7 +175,9 @@ def package(stage, command):
     unit = os.path.join(stage.root, "lib", "systemd", "system", "kitchenrue-agent.service")
     said = c_library.ran(["systemd-analyze", "verify", unit])[1]
     # the program isn't installed here
-    others = [line for line in said.splitlines() if "kitchenrue-agent" in line and "/usr/bin/kitchenrue-agent is not executable" not in line]
+    others = [
+        line for line in said.splitlines() if "kitchenrue-agent" in line and "/usr/bin/kitchenrue-agent is not executable" not in line
+    ]
     stage.count.check("systemd reads the unit", os.path.isfile(unit) and not others, said[-1500:])
 
 
@@ -198,7 +213,9 @@ def snapshot_of(events):
     lines = ["#done 0", "#ran 0", f"#least event-clock: {events[0][0]}"]
     for time_of_it, payload, status in events:
         words = f"{time_of_it} {b'deploy'.hex()} {payload.encode().hex()}"
-        lines += [f"#event {words}"] + ([] if status is None else [f"#done {words}"]) + ([f"#ran {words} deploy={status}"] if status else [])
+        lines += (
+            [f"#event {words}"] + ([] if status is None else [f"#done {words}"]) + ([f"#ran {words} deploy={status}"] if status else [])
+        )
     return "\n".join(lines) + "\n"
 
 
@@ -208,7 +225,9 @@ def runs(stage, command):
         has_serf = shutil.which("serf") is not None
         if has_serf:
             stage.well("an event without a handler", "serf event -coalesce=false other x", "dispatched")
-        stage.soon_well(command.name(), command.text, r"^TIME +NAME +PAYLOAD +STATE +HANDLERS\n" + (r"\d+ +other +x +never began\n" if has_serf else ""))
+        stage.soon_well(
+            command.name(), command.text, r"^TIME +NAME +PAYLOAD +STATE +HANDLERS\n" + (r"\d+ +other +x +never began\n" if has_serf else "")
+        )
         return
     for name, events in RUNS.items():
         with open(os.path.join(stage.top, f"{name}.snapshot"), "w", encoding="ascii") as file:

@@ -218,7 +218,11 @@ def bursts():
         check("nothing is unread", agent.unread_outcomes() == 0)
         with burst:
             burst.receive(2, b"\xff")
-        check("a burst may be filled again", [getattr(outcome, "code", None) for outcome in burst.outcomes] == [None, Code.NO_MESSAGE], burst.outcomes)
+        check(
+            "a burst may be filled again",
+            [getattr(outcome, "code", None) for outcome in burst.outcomes] == [None, Code.NO_MESSAGE],
+            burst.outcomes,
+        )
         with agent.burst() as empty:
             pass
         check("an empty burst", empty.outcomes == [])

@@ -5,7 +5,19 @@ import sys
 
 sys.dont_write_bytecode = True
 sys.path.insert(0, os.path.join(os.path.dirname(os.path.abspath(__file__)), "..", "..", "..", "bindings", "python"))
-from serf_agent import Agent, AgentError, Code, Fired, FiredQuery, Foreign, Ignored, ReceivedAck, ReceivedEvent, ReceivedQuery, ReceivedResponse
+from serf_agent import (
+    Agent,
+    AgentError,
+    Code,
+    Fired,
+    FiredQuery,
+    Foreign,
+    Ignored,
+    ReceivedAck,
+    ReceivedEvent,
+    ReceivedQuery,
+    ReceivedResponse,
+)
 
 
 def query_line(name, handed, ack):

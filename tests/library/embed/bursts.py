@@ -17,7 +17,19 @@ SECOND = ["ignored 4"] * 6 + ["fired 7 own", "asked 3 load handed acked", "ignor
 
 # Good and faulty packets, a repeat, a foreign message and a state in one burst, with an event, an event that is too large, a query
 # without time, and a query; then an empty burst, and an answer, its repeat and events.
-MIXED = [EVENTS[0], "refused 11", EVENTS[1], "ignored 4", "refused 11", QUERY, "foreign 0", "state", "fired 3 own", "refused 9", "refused 15"]
+MIXED = [
+    EVENTS[0],
+    "refused 11",
+    EVENTS[1],
+    "ignored 4",
+    "refused 11",
+    QUERY,
+    "foreign 0",
+    "state",
+    "fired 3 own",
+    "refused 9",
+    "refused 15",
+]
 MIXED += ["asked 2 load handed acked", EVENTS[2], "ok"]
 ANSWERS = ["ok", "response other yes", "ignored 11", *(f"fired {time} again" for time in range(6, 11)), "ok"]
 
@@ -43,7 +55,8 @@ def try_bursts(count, language, places, words, **more):
 
 
 def is_whole(lines, end):
-    """Whether the bursts together handed out exactly what one with memory does, and the first one stopped after the number of calls that it reports."""
+    """Whether the bursts together handed out exactly what one with memory does, and the first one stopped after the number of calls
+    that it reports."""
     first, second = lines[: lines.index(end)], lines[lines.index(end) + 1 : lines.index("ok", lines.index(end) + 1)]
     own = [line for line in first + second if line.startswith(("fired", "asked"))]
     handed = [line for line in first + second if line.startswith(("event", "query"))]
@@ -63,12 +76,22 @@ def try_starved(count, language, places, words, **more):
         lines = output.splitlines()
         end = next((line for line in lines if line == "ok" or line.startswith("out of memory")), None)
         whole = status == 0 and end is not None and is_whole(lines, end)
-        times = [int(line.split(" ")[1]) for line in lines[: lines.index("ok", lines.index(end) + 1)] if line.startswith(("event", "fired"))] if whole else []
+        times = (
+            [int(line.split(" ")[1]) for line in lines[: lines.index("ok", lines.index(end) + 1)] if line.startswith(("event", "fired"))]
+            if whole
+            else []
+        )
         # (the file of a burst that was cut has the lines of what it handed out)
-        count.check(f"{language}: a burst with {granted} requests for memory", whole and kept(folder, "third")[0] == max(times), f"{status}, {end}: {output[-900:]}")
+        count.check(
+            f"{language}: a burst with {granted} requests for memory",
+            whole and kept(folder, "third")[0] == max(times),
+            f"{status}, {end}: {output[-900:]}",
+        )
         if not whole or end == "ok":
             break
         ends[end] = ends.get(end, 0) + 1
     # (each call that allocates was once the first that failed)
     cut = {int(end.split(" ")[-1]) for end in ends}
-    count.check(f"{language}: bursts that end in each place", set(range(6)) <= cut and granted < MAX_GRANTED - 1, f"{sorted(cut)}, {granted}")
+    count.check(
+        f"{language}: bursts that end in each place", set(range(6)) <= cut and granted < MAX_GRANTED - 1, f"{sorted(cut)}, {granted}"
+    )

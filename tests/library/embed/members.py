@@ -122,7 +122,10 @@ def made():
     """Filters as Serf writes them, and with long texts and lists as MessagePack's old form has them."""
     check("of names", node_filter(b"b") == NODE and node_filter(b"c") == OTHER and node_filter() == b"\x00\x90")
     check("of sixteen names", node_filter(*[b"b"] * 16) == b"\x00\xdc\x00\x10" + b"\xa1b" * 16)
-    check("of long names", node_filter(b"x" * 32, b"y" * 65536)[:5] == b"\x00\x92\xda\x00\x20" and node_filter(b"y" * 65536)[2:7] == b"\xdb\x00\x01\x00\x00")
+    check(
+        "of long names",
+        node_filter(b"x" * 32, b"y" * 65536)[:5] == b"\x00\x92\xda\x00\x20" and node_filter(b"y" * 65536)[2:7] == b"\xdb\x00\x01\x00\x00",
+    )
     check("of a tag", tag_filter(b"a", b"") == TAG)
     check("of very many names", node_filter(*[b"b"] * 65536)[:6] == b"\x00\xdd\x00\x01\x00\x00")
     refused("a name of str", TypeError, node_filter, "b")

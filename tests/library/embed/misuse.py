@@ -404,7 +404,21 @@ def lock_of_a_parent():
         os.kill(child, signal.SIGKILL)
 
 
-for part in (settings, numbers, flags_and_bytes, moments, let_go, paths, owners, bounds, forks, fork_in_a_call, folders, stale_members, lock_of_a_parent):
+for part in (
+    settings,
+    numbers,
+    flags_and_bytes,
+    moments,
+    let_go,
+    paths,
+    owners,
+    bounds,
+    forks,
+    fork_in_a_call,
+    folders,
+    stale_members,
+    lock_of_a_parent,
+):
     part()
 print(f"{passed} passed, {failed} failed")
 sys.exit(1 if failed else 0)

@@ -62,7 +62,9 @@ class Function:
         for name, body in bodies.items():
             left = "" if self.has_results else "\n\t\treturn"
             cases.append(f'\n\tcase "{name}":\n{body.strip(chr(10))}{left}')
-        return f"{text[self.begin : self.body]}\n\tswitch plantedBody {{{''.join(cases)}\n\t}}\n{text[self.body : self.end].strip(chr(10))}\n"
+        return (
+            f"{text[self.begin : self.body]}\n\tswitch plantedBody {{{''.join(cases)}\n\t}}\n{text[self.body : self.end].strip(chr(10))}\n"
+        )
 
 
 def after_parentheses(text, at):

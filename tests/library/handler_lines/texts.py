@@ -24,15 +24,65 @@ CUT_AT_EACH_BYTE = {"host": 1, "changed": 1, "strange": 1}
 
 # Lines that no reader accepts, or that say nothing of handlers; {time} is one of the times that are used.
 FOREIGN = [
-    "#begun {time}", "#open {time}", "#event {time}", "#done", "#done ", "#done {time} ", "#done  {time}", "#done {time} 61", "#done +{time}",
-    "#done -{time}", "#done 0{time}", "#done {time}.", "#done 18446744073709551615", "#done 18446744073709551614", "#done 99999999999999999999999",
-    "#Done {time}", "#DONE {time} 61 62", "#finished {time} 61 62", "#begin {time} 61 62", "#begun2 {time} 61 62", "#begunx{time} 61 62",
-    "#begun {time} 61 62 7", "#done {time} 61 62 0", "#open {time} 61 62 63 64", "#event {time} 61 62 1", "#begun {time} 61  62", "#begun  {time} 61 62",
-    "#begun {time} 61 6", "#begun {time} 6g 62", "#begun {time} 0x61 62", "#done {time} 61", "#open 0 61 62", "#event 0 61 62", "#begun 0 61 62",
-    "#open 18446744073709551615 61 62", "#event 18446744073709551614 61 62", "#begun {time} 61 62\r", " #begun {time} 61 62", "begun {time} 61 62",
-    "##begun {time} 61 62", "#begun\t{time} 61 62", "#", "", "#query {time} 7", "#least event-clock: {time}", "clock: {time}", "event-clock: {time}",
-    "event-clock: 0{time}", "query-clock: {time}", "alive: a 127.0.0.1:7946", "not-alive: a", "leave", "coordinate: {{}}", "\x00\x00\x00",
-    "#ran {time}", "#ran {time} 61 62", "#ran {time} 61 62 deploy=0", "#process {time} 61 62 deploy 12 345 1b4e28ba-2fa1", "# filler",
+    "#begun {time}",
+    "#open {time}",
+    "#event {time}",
+    "#done",
+    "#done ",
+    "#done {time} ",
+    "#done  {time}",
+    "#done {time} 61",
+    "#done +{time}",
+    "#done -{time}",
+    "#done 0{time}",
+    "#done {time}.",
+    "#done 18446744073709551615",
+    "#done 18446744073709551614",
+    "#done 99999999999999999999999",
+    "#Done {time}",
+    "#DONE {time} 61 62",
+    "#finished {time} 61 62",
+    "#begin {time} 61 62",
+    "#begun2 {time} 61 62",
+    "#begunx{time} 61 62",
+    "#begun {time} 61 62 7",
+    "#done {time} 61 62 0",
+    "#open {time} 61 62 63 64",
+    "#event {time} 61 62 1",
+    "#begun {time} 61  62",
+    "#begun  {time} 61 62",
+    "#begun {time} 61 6",
+    "#begun {time} 6g 62",
+    "#begun {time} 0x61 62",
+    "#done {time} 61",
+    "#open 0 61 62",
+    "#event 0 61 62",
+    "#begun 0 61 62",
+    "#open 18446744073709551615 61 62",
+    "#event 18446744073709551614 61 62",
+    "#begun {time} 61 62\r",
+    " #begun {time} 61 62",
+    "begun {time} 61 62",
+    "##begun {time} 61 62",
+    "#begun\t{time} 61 62",
+    "#",
+    "",
+    "#query {time} 7",
+    "#least event-clock: {time}",
+    "clock: {time}",
+    "event-clock: {time}",
+    "event-clock: 0{time}",
+    "query-clock: {time}",
+    "alive: a 127.0.0.1:7946",
+    "not-alive: a",
+    "leave",
+    "coordinate: {{}}",
+    "\x00\x00\x00",
+    "#ran {time}",
+    "#ran {time} 61 62",
+    "#ran {time} 61 62 deploy=0",
+    "#process {time} 61 62 deploy 12 345 1b4e28ba-2fa1",
+    "# filler",
 ]
 
 
@@ -44,7 +94,11 @@ class Draw:
 
     def event(self):
         draw = self.draw
-        time = draw.choice([1, 2, 3, 4, 5, 6, 7, 8, 9, 10, 2**32, 2**64 - 2]) if draw.random() < 0.97 else draw.getrandbits(64) % (2**64 - 2) + 1
+        time = (
+            draw.choice([1, 2, 3, 4, 5, 6, 7, 8, 9, 10, 2**32, 2**64 - 2])
+            if draw.random() < 0.97
+            else draw.getrandbits(64) % (2**64 - 2) + 1
+        )
         name, payload = (draw.choice(PARTS[:5] if draw.random() < 0.9 else PARTS) for _ in range(2))
         return time, name, LARGE if draw.random() < LARGE_ONES else payload
 
@@ -65,8 +119,19 @@ class Draw:
         if kind < 0.25:
             return foreign(draw.choice(FOREIGN), event[0])
         if kind < 0.4:
-            return handlers.done_up_to_line(draw.choice([0, event[0], max(event[0] - 1, 0), 2**64 - 2] if draw.random() < 0.3 else [0, 0, 1, 2]))
-        line = draw.choice([kept.event_line, kept.event_line, of_event(handlers.open_line), of_event(handlers.begun_line), of_event(handlers.begun_line), of_event(handlers.done_line)])(*event)
+            return handlers.done_up_to_line(
+                draw.choice([0, event[0], max(event[0] - 1, 0), 2**64 - 2] if draw.random() < 0.3 else [0, 0, 1, 2])
+            )
+        line = draw.choice(
+            [
+                kept.event_line,
+                kept.event_line,
+                of_event(handlers.open_line),
+                of_event(handlers.begun_line),
+                of_event(handlers.begun_line),
+                of_event(handlers.done_line),
+            ]
+        )(*event)
         return self.spelled(line) if draw.random() < 0.1 else line
 
     def strange(self):
@@ -125,7 +190,9 @@ class Host:
         elif kind < 0.5:
             self.hand_out()
         elif kind < 0.55:
-            self.text += foreign(draw.choice(["alive: a 127.0.0.1:7946", "clock: {time}", "#query {time} 7", "#a later version's line"]), self.time)
+            self.text += foreign(
+                draw.choice(["alive: a 127.0.0.1:7946", "clock: {time}", "#query {time} 7", "#a later version's line"]), self.time
+            )
         elif self.is_tracked and kind < 0.95:
             self.handle()
         elif self.is_tracked:

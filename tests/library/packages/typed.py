@@ -16,9 +16,15 @@ def callables():
         if inspect.isfunction(found):
             yield name, found
         elif inspect.isclass(found) and found.__module__.startswith("serf_agent"):
-            own = {key: value for key, value in vars(found).items() if inspect.isfunction(value) and value.__module__.startswith("serf_agent")}
+            own = {
+                key: value for key, value in vars(found).items() if inspect.isfunction(value) and value.__module__.startswith("serf_agent")
+            }
             # (a dataclass's own methods have their types from the fields)
-            yield from ((f"{name}.{key}", value) for key, value in own.items() if not hasattr(found, "__dataclass_fields__") or not key.startswith("__"))
+            yield from (
+                (f"{name}.{key}", value)
+                for key, value in own.items()
+                if not hasattr(found, "__dataclass_fields__") or not key.startswith("__")
+            )
 
 
 for name, found in callables():

@@ -9,7 +9,15 @@ import pages
 
 # The words that run a command as a user who isn't root, can read root's folders (with the compilers), and has no network.
 OFF_LINE = ["unshare", "--net"] if os.geteuid() == 0 and c_library.ran(["unshare", "--net", "true"])[0] == 0 else []
-NOBODY = [*OFF_LINE, "setpriv", "--reuid=65534", "--regid=65534", "--clear-groups", "--inh-caps=+dac_read_search", "--ambient-caps=+dac_read_search"]
+NOBODY = [
+    *OFF_LINE,
+    "setpriv",
+    "--reuid=65534",
+    "--regid=65534",
+    "--clear-groups",
+    "--inh-caps=+dac_read_search",
+    "--ambient-caps=+dac_read_search",
+]
 AS_USER = NOBODY if os.geteuid() == 0 else []
 
 # The words with which the machine reports another type.
@@ -24,7 +32,16 @@ def env_of(home, **more):
     own = {name: os.environ[name] for name in ("PATH", "RUSTUP_HOME", "CC") if name in os.environ}
     if shutil.which("cargo") and "RUSTUP_HOME" not in own:
         own["RUSTUP_HOME"] = os.path.expanduser("~/.rustup")
-    return {**own, "HOME": home, "LANG": "C.UTF-8", "CARGO_HOME": os.path.join(home, "cargo"), "CARGO_NET_OFFLINE": "true", "PYTHONDONTWRITEBYTECODE": "1", "PIP_DISABLE_PIP_VERSION_CHECK": "1", **more}
+    return {
+        **own,
+        "HOME": home,
+        "LANG": "C.UTF-8",
+        "CARGO_HOME": os.path.join(home, "cargo"),
+        "CARGO_NET_OFFLINE": "true",
+        "PYTHONDONTWRITEBYTECODE": "1",
+        "PIP_DISABLE_PIP_VERSION_CHECK": "1",
+        **more,
+    }
 
 
 def by_user(folder, *words, home=None, **env):

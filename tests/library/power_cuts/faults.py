@@ -132,7 +132,9 @@ def later(write, data):
 
 GO = {
     "serfagent/store.go": [
-        ("\nfunc syncFolder(", """
+        (
+            "\nfunc syncFolder(",
+            """
 func is(fault string) bool { return os.Getenv("POWER_CUTS_FAULT") == fault }
 
 func unless(fault string, done func() error) error {
@@ -156,7 +158,8 @@ func later(write func([]byte) error, data []byte) error {
 	return before()
 }
 
-func syncFolder("""),
+func syncFolder(""",
+        ),
         (
             "\t\treturn flushData(s.file)\n",
             '\t\treturn unless("line", func() error { return unless("late", func() error { return flushData(s.file) }) })\n',
@@ -173,7 +176,10 @@ func syncFolder("""),
     "serfagent/filler.go": [
         ("\tfiller[length-1] = '\\n'\n", '\tif !is("no_newline") {\n\t\tfiller[length-1] = \'\\n\'\n\t}\n'),
         ("\tif s.size == s.end {\n", '\tif s.size == s.end || is("not_cut") {\n\t\ts.size = s.end\n'),
-        ("\ts.size = s.end\n\treturn flushData(s.file)\n", '\ts.size = s.end\n\treturn unless("cut_late", func() error { return flushData(s.file) })\n'),
+        (
+            "\ts.size = s.end\n\treturn flushData(s.file)\n",
+            '\ts.size = s.end\n\treturn unless("cut_late", func() error { return flushData(s.file) })\n',
+        ),
         (
             "\tisFiller := false\n",
             '\tdefer func() {\n\t\tif is("opened_filler") && s.end > 0 && s.end < s.size {\n'

@@ -1,8 +1,8 @@
 """Power cuts of hosts that track their handlers: what a cut leaves of the lines about them, and what the next life reports.
 
-A host prints `e TIME NAME` when an event is handed out, `b TIME NAME` when its handler begins, and `d TIME NAME` when the handler has ended;
-and at an opening `w TIME NAME` for each event that waits for its handler, and `u TIME NAME` for each whose handler began and isn't known to
-have ended. An event is a tuple of its time, its name and its payload, which is empty here.
+A host prints `e TIME NAME` when an event is handed out, `b TIME NAME` when its handler begins, and `d TIME NAME` when the handler has
+ended; and at an opening `w TIME NAME` for each event that waits for its handler, and `u TIME NAME` for each whose handler began and
+isn't known to have ended. An event is a tuple of its time, its name and its payload, which is empty here.
 """
 
 import os
@@ -135,8 +135,8 @@ def lines_of(found):
 
 
 def open_again(seen, store, texts, room):
-    """Opens each text by the store's own host: it has to report what the reader in Python finds there. Then what waits runs, everything ends,
-    and the opening after that has to report nothing but an event that was fired last."""
+    """Opens each text by the store's own host: it has to report what the reader in Python finds there. Then what waits runs, everything
+    ends, and the opening after that has to report nothing but an event that was fired last."""
     with tempfile.TemporaryDirectory(dir=room) as folder:
         lines, wanted = [], []
         for number, text in enumerate(texts):

@@ -1,5 +1,5 @@
-"""What a power cut may leave of one change of a file: of appended bytes, of a file that got shorter, and of bytes that were written over older
-ones.
+"""What a power cut may leave of one change of a file: of appended bytes, of a file that got shorter, and of bytes that were written
+over older ones.
 """
 
 import itertools
@@ -12,8 +12,8 @@ ALL_CHOICES = 3
 
 
 def between(before, after, lengths):
-    """What a cut may leave of a file that had the bytes `before` when it was synced, and has `after` now. lengths returns up to which places a
-    part may be there."""
+    """What a cut may leave of a file that had the bytes `before` when it was synced, and has `after` now. lengths returns up to which
+    places a part may be there."""
     yield before
     common = min(len(before), len(after))
     over = [at for at in range(common) if before[at] != after[at]]
@@ -30,8 +30,8 @@ def between(before, after, lengths):
 
 
 def overwritten(before, after, first, last, lengths):
-    """Bytes of one length, of which those from first to last were written anew: each sector is old or new, and of one of them a prefix may be
-    new."""
+    """Bytes of one length, of which those from first to last were written anew: each sector is old or new, and of one of them a prefix
+    may be new."""
     sectors = [
         (max(first, at * SECTOR), min(last, (at + 1) * SECTOR)) for at in range(first // SECTOR, (last - 1) // SECTOR + 1)
     ]

@@ -23,7 +23,8 @@ SIMULATED = {"os": "os", "syscall": "syscall", "path/filepath": "filepath"}
 
 PLANTED = "kitchenrue.example/simulation/planted"
 
-# Limits that are smaller in the copies, so that short runs reach them, the clock of the day that jumps, and what records the times of intents.
+# Limits that are smaller in the copies, so that short runs reach them, the clock of the day that jumps, and what records the times
+# of intents.
 OTHER = {
     "serf/join.go": [
         (

@@ -99,7 +99,11 @@ FAULTS = {
     ),
     "fired-ok": Fault(
         "A firing whose burst failed is reported as fired.",
-        {"serf/receive.go": [("\t\tfiring.err = err\n", '\t\tif firing.err = err; planted.IsOn("fired-ok") {\n\t\t\tfiring.err = nil\n\t\t}\n')]},
+        {
+            "serf/receive.go": [
+                ("\t\tfiring.err = err\n", '\t\tif firing.err = err; planted.IsOn("fired-ok") {\n\t\t\tfiring.err = nil\n\t\t}\n')
+            ]
+        },
     ),
     "twice": Fault(
         "A received event is handed out twice.",
@@ -127,7 +131,11 @@ FAULTS = {
     "all-old": Fault("Each exchange of states ignores old events.", {}),
     "not-sent": Fault(
         "A fired event isn't gossiped.",
-        {"serf/receive.go": [("\ts.events.add(broadcasts...)\n", '\tif !planted.IsOn("not-sent") {\n\t\ts.events.add(broadcasts...)\n\t}\n')]},
+        {
+            "serf/receive.go": [
+                ("\ts.events.add(broadcasts...)\n", '\tif !planted.IsOn("not-sent") {\n\t\ts.events.add(broadcasts...)\n\t}\n')
+            ]
+        },
     ),
     "storm": Fault(
         "Each received packet is gossiped again, also one that isn't new.",
@@ -189,7 +197,11 @@ FAULTS = {
     ),
     "no-refute": Fault(
         "A node doesn't refute a message that says that it left.",
-        {"serf/join.go": [("\tif s.State() == SerfAlive {\n\t\tsignal(", '\tif s.State() == SerfAlive && !planted.IsOn("no-refute") {\n\t\tsignal(')]},
+        {
+            "serf/join.go": [
+                ("\tif s.State() == SerfAlive {\n\t\tsignal(", '\tif s.State() == SerfAlive && !planted.IsOn("no-refute") {\n\t\tsignal(')
+            ]
+        },
     ),
     "goroutine": Fault(
         "A goroutine doesn't end with the node.",
@@ -207,7 +219,11 @@ FAULTS = {
     ),
     "descriptor": Fault(
         "A compaction leaves the old file open.",
-        {"serf/snapshot.go": [("\tif f.file != nil {\n\t\tf.file.Close()\n", '\tif f.file != nil && !planted.IsOn("descriptor") {\n\t\tf.file.Close()\n')]},
+        {
+            "serf/snapshot.go": [
+                ("\tif f.file != nil {\n\t\tf.file.Close()\n", '\tif f.file != nil && !planted.IsOn("descriptor") {\n\t\tf.file.Close()\n')
+            ]
+        },
     ),
     "unguarded": Fault(
         "The guard passes each packet.",

@@ -3,7 +3,9 @@ once, and its replacement."""
 
 C = {
     "serf_agent_store.c": [
-        ("#define _GNU_SOURCE\n", """#define _GNU_SOURCE
+        (
+            "#define _GNU_SOURCE\n",
+            """#define _GNU_SOURCE
 #include <stdbool.h>
 #include <stdlib.h>
 #include <string.h>
@@ -11,17 +13,15 @@ static bool is(const char *fault) {
     const char *planted = getenv("STORE_FAULT");
     return planted != NULL && strcmp(planted, fault) == 0;
 }
-"""),
+""",
+        ),
         (
             "static enum serf_agent_store_error store_error_of(int error) {\n",
             "static enum serf_agent_store_error store_error_of(int error) {\n"
             '    if (error == EDQUOT && is("quota")) {\n        return SERF_AGENT_STORE_FAILED;\n    }\n',
         ),
         ("    if (store->file >= 0) {\n", '    if (store->file >= 0 && !is("opening_leaks")) {\n'),
-        (
-            "    if (store->folder >= 0) {\n        close(",
-            '    if (store->folder >= 0 && !is("folder_open")) {\n        close(',
-        ),
+        ("    if (store->folder >= 0) {\n        close(", '    if (store->folder >= 0 && !is("folder_open")) {\n        close('),
         ("O_CREAT | O_CLOEXEC | O_NOFOLLOW", 'O_CREAT | (is("child_has_lock") ? 0 : O_CLOEXEC) | O_NOFOLLOW'),
         (
             "    close(store->file);\n    store->file = file;\n",
@@ -35,8 +35,7 @@ static bool is(const char *fault) {
         ),
         (
             "if (!S_ISREG(info.st_mode)) {",
-            'if (!S_ISREG(info.st_mode) && !(is("device") && S_ISCHR(info.st_mode)) &&'
-            ' !(is("pipe") && S_ISFIFO(info.st_mode))) {',
+            'if (!S_ISREG(info.st_mode) && !(is("device") && S_ISCHR(info.st_mode)) &&' ' !(is("pipe") && S_ISFIFO(info.st_mode))) {',
         ),
         (
             "/* Closes the store's descriptors and frees its memory. */",
@@ -64,10 +63,12 @@ static bool is(const char *fault) {
         ),
         (
             "return fsync(store->file) == 0 && fsync(store->folder) == 0;",
-            'return (fsync(store->file) == 0 || is("opened_text_ok")) &&'
-            ' (fsync(store->folder) == 0 || is("opened_name_ok"));',
+            'return (fsync(store->file) == 0 || is("opened_text_ok")) &&' ' (fsync(store->folder) == 0 || is("opened_name_ok"));',
         ),
-        ("size = (size_t)info.st_size,", 'size = is("read_nothing") ? 0 : is("long_read_cut") && info.st_size > 65536 ? 65536 : (size_t)info.st_size,'),
+        (
+            "size = (size_t)info.st_size,",
+            'size = is("read_nothing") ? 0 : is("long_read_cut") && info.st_size > 65536 ? 65536 : (size_t)info.st_size,',
+        ),
         (
             "if (count <= 0) {\n            free(bytes);",
             'if (count <= 0) {\n            if (is("read_ok")) {\n                size = read_len;\n'
@@ -103,7 +104,9 @@ static bool is(const char *fault) {
 
 PYTHON = {
     "serf_agent/store.py": [
-        ("\nclass Store:\n", '''
+        (
+            "\nclass Store:\n",
+            '''
 FAULT = os.environ.get("STORE_FAULT")
 
 
@@ -123,11 +126,9 @@ def put(file, data, in_part, failed):
 
 
 class Store:
-'''),
-        (
-            "    if os.path.exists(path):",
-            '    if FAULT in ("link", "link_replaced"):\n        return path\n    if os.path.exists(path):',
+''',
         ),
+        ("    if os.path.exists(path):", '    if FAULT in ("link", "link_replaced"):\n        return path\n    if os.path.exists(path):'),
         (
             "                self._open_file()\n",
             '                if FAULT == "left_early" and os.path.exists(self.path + ".new"):\n'
@@ -197,7 +198,10 @@ class Store:
             'put(file, data, "beside_in_part", "beside_ok")\n                but("beside_sync_ok", os.fsync, file)\n',
         ),
         ("os.rename(", 'FAULT == "no_rename" or but("rename_ok", os.rename, '),
-        ("self._file = file\n            os.fsync(self._folder)", 'self._file = file\n            but("folder_ok", os.fsync, self._folder)'),
+        (
+            "self._file = file\n            os.fsync(self._folder)",
+            'self._file = file\n            but("folder_ok", os.fsync, self._folder)',
+        ),
     ]
 }
 
@@ -208,7 +212,9 @@ GO = {
         ('\t"os/signal"\n', '\t"os/signal"\n\t"runtime"\n'),
     ],
     "serfagent/store.go": [
-        ("\nfunc syncFolder(", """
+        (
+            "\nfunc syncFolder(",
+            """
 func is(fault string) bool { return os.Getenv("STORE_FAULT") == fault }
 
 // (Go closes a file that nobody can use any more)
@@ -246,7 +252,8 @@ func isOther(kind os.FileMode) bool {
 	return is("device") && kind&os.ModeCharDevice != 0 || is("pipe") && kind&os.ModeNamedPipe != 0
 }
 
-func syncFolder("""),
+func syncFolder(""",
+        ),
         (
             "filepath.Abs(path)\n\tif err != nil {\n\t\treturn \"\", err",
             'filepath.Abs(path)\n\tif err != nil || is("link") || is("link_replaced") {\n\t\treturn absolute, err',
@@ -272,7 +279,10 @@ func syncFolder("""),
             '\t\tif err := step(); err != nil {\n\t\t\tif is("rename_takes_beside") {\n\t\t\t\tfile, s.file = s.file, file\n'
             "\t\t\t}\n\t\t\tfile.Close()\n",
         ),
-        ("\t\tswitch number {\n", '\t\tif is("quota") && number == syscall.EDQUOT {\n\t\t\tnumber = syscall.EIO\n\t\t}\n\t\tswitch number {\n'),
+        (
+            "\t\tswitch number {\n",
+            '\t\tif is("quota") && number == syscall.EDQUOT {\n\t\t\tnumber = syscall.EIO\n\t\t}\n\t\tswitch number {\n',
+        ),
         (
             "\tif err != nil {\n\t\tfile.Close()\n\t\treturn nil, err\n\t}\n",
             '\tif err != nil {\n\t\tif is("opening_leaks") {\n\t\t\tleaked = append(leaked, file)\n\t\t\treturn nil, err\n\t\t}\n'
@@ -332,14 +342,8 @@ func syncFolder("""),
             "func (s *Store) writeWithoutFiller(data []byte) error {\n"
             '\tif err := put(s.file, data, s.end, "write_in_part", "write_ok"); err != nil {',
         ),
-        (
-            "\ts.isFull = true\n",
-            '\tif is("filler_needed") {\n\t\treturn syscall.ENOSPC\n\t}\n\ts.isFull = true\n',
-        ),
-        (
-            "\t// (the first try may have written a part of the filler)\n",
-            '\tif is("filler_left") {\n\t\treturn nil\n\t}\n',
-        ),
+        ("\ts.isFull = true\n", '\tif is("filler_needed") {\n\t\treturn syscall.ENOSPC\n\t}\n\ts.isFull = true\n'),
+        ("\t// (the first try may have written a part of the filler)\n", '\tif is("filler_left") {\n\t\treturn nil\n\t}\n'),
         (
             "\t\tif _, err := s.file.WriteAt(data, s.end); err != nil {\n\t\t\treturn err\n\t\t}\n\t\ts.end += length\n",
             '\t\tif is("filler_behind") {\n\t\t\ts.end = s.size\n\t\t\treturn s.writeWithoutFiller(data)\n\t\t}\n'
@@ -351,10 +355,7 @@ func syncFolder("""),
             '\tif err := but("cut_ok", s.file.Truncate(s.end)); err != nil {\n\t\treturn err\n\t}\n\ts.size = s.end\n'
             '\treturn but("cut_sync_ok", flushData(s.file))\n',
         ),
-        (
-            "\tisFiller := false\n",
-            '\tif is("filler_read") {\n\t\ts.end = s.size\n\t\treturn nil\n\t}\n\tisFiller := false\n',
-        ),
+        ("\tisFiller := false\n", '\tif is("filler_read") {\n\t\ts.end = s.size\n\t\treturn nil\n\t}\n\tisFiller := false\n'),
         ("err != nil || isFiller {", 'err != nil || isFiller || is("torn_filler") {'),
         ("size != s.size {", 'size != s.size && !is("any_length") {'),
         (

@@ -54,7 +54,11 @@ class DayNode:
             if word == "sent":
                 self.day.network.append(shown(one).split(" ")[1] if shown else words[0])
             elif word == "event":
-                time, name, payload = words[0], bytes.fromhex(words[1]).decode(), "" if words[2] == "-" else bytes.fromhex(words[2]).decode()
+                time, name, payload = (
+                    words[0],
+                    bytes.fromhex(words[1]).decode(),
+                    "" if words[2] == "-" else bytes.fromhex(words[2]).decode(),
+                )
                 self.day.log.append(f"event {self.name} {time} {name} {payload or '-'}")
             elif word == "handed":
                 self.handed = int(words[0]) + 1
@@ -75,12 +79,16 @@ class DayNode:
 
 def with_members(line):
     """A reply's line with a state that says something of members, as a node's does."""
-    return line.replace("ac5374617475734c54696d657380ab4c6566744d656d6265727390", "ac5374617475734c54696d657381a16103ab4c6566744d656d6265727391a162")
+    return line.replace(
+        "ac5374617475734c54696d657380ab4c6566744d656d6265727390", "ac5374617475734c54696d657381a16103ab4c6566744d656d6265727391a162"
+    )
 
 
 def with_address(line):
     """A reply's line with a query that has an address and relays, as a node's does."""
-    return line.replace("a441646472a0a4506f727400", "a441646472a40a000001a4506f7274cd1f0a").replace("ab52656c6179466163746f7200", "ab52656c6179466163746f7203")
+    return line.replace("a441646472a0a4506f727400", "a441646472a40a000001a4506f7274cd1f0a").replace(
+        "ab52656c6179466163746f7200", "ab52656c6179466163746f7203"
+    )
 
 
 class Day:

@@ -86,7 +86,10 @@ def kept(count):
     opened = b'"b" was opened on a text with the line of event 2 "deploy" "v2"'
     failed = b'the disk of "b" failed at %s, as action %d had planned of number %d from then on; it is stopped until it is opened again'
     for number, *wanted in (
-        (4, b"its snapshot keeps clock 0, and its buffers are restored, events held: 2, event clock 3, query clock 2: it takes events from 1 and queries from 1 on"),
+        (
+            4,
+            b"its snapshot keeps clock 0, and its buffers are restored, events held: 2, event clock 3, query clock 2: it takes events from 1 and queries from 1 on",
+        ),
         (5, opened),
         (6, handed),
         (8, b'slot 1 carries event 1 "deploy" "v1": seen: ' + handed, b'slot 2 carries event 2 "deploy" "v2": seen: ' + opened),
@@ -97,7 +100,9 @@ def kept(count):
         got = turns[number][1] if turns else None
         count.check(f"kept events: action {number}", got == wanted, got)
     # a join whose own line is durable, and whose event's line isn't
-    state = run_program(["replay"], KEEPING + fires + b"state 0\n")[1].split()[-1].replace(b"4576656e744c54696d6503", b"4576656e744c54696d6501")
+    state = (
+        run_program(["replay"], KEEPING + fires + b"state 0\n")[1].split()[-1].replace(b"4576656e744c54696d6503", b"4576656e744c54696d6501")
+    )
     got = reasons_of(KEEPING + b"inject %s\nbreak 1 flush 2\nmerge 1 0 join\n" % state, 3)
     wanted = b'slot 1 carries event 1 "deploy" "v1": new, but ' + failed % (b"a flush", 2, 2)
     count.check("kept events: a line after the join's", got == [wanted], got)
@@ -113,7 +118,14 @@ def of_earlier_actions(count):
     turns = turns_of(run_program(["explain"], schedule)[1])
     for number, *wanted in (
         (4, b'query 1 has an ack of "a"'),
-        (8, RISES % 3, *(b'slot %d carries event %d "%s" "": below the minimum time 3, unchanged since action 8' % row for row in ((1, 1, b"a"), (2, 2, b"b")))),
+        (
+            8,
+            RISES % 3,
+            *(
+                b'slot %d carries event %d "%s" "": below the minimum time 3, unchanged since action 8' % row
+                for row in ((1, 1, b"a"), (2, 2, b"b"))
+            ),
+        ),
         (9, b'event 1 "a" "": below the minimum time 3, unchanged since action 8'),
         (14, b"query 1 with ID 7: below the minimum time 2, unchanged since action 10"),
         (16, b'"a" asked query 1 at action 1 and closed it at action 15'),
@@ -123,7 +135,10 @@ def of_earlier_actions(count):
         got = turns[number][1] if turns else None
         count.check(f"earlier actions: action {number}", got == wanted, got)
     # (a state that has an event twice, at an agent that keeps its events: this merge handed it out)
-    front, event = b"0286a54c54696d6501ac5374617475734c54696d657380ab4c6566744d656d6265727390aa4576656e744c54696d6502a64576656e747394c0", b"82a44e616d65a161a75061796c6f6164a0"
+    front, event = (
+        b"0286a54c54696d6501ac5374617475734c54696d657380ab4c6566744d656d6265727390aa4576656e744c54696d6502a64576656e747394c0",
+        b"82a44e616d65a161a75061796c6f6164a0",
+    )
     twice = front + b"82a54c54696d6501a64576656e747392" + event * 2 + b"c0c0aa51756572794c54696d6501"
     got = reasons_of(KEEPING + b"inject %s\nmerge 0 0 sync\n" % twice, 2)
     carries = b'slot 1 carries event 1 "a" "": '
@@ -145,7 +160,9 @@ def minimum_times(count):
         count.check(f"a minimum time: action {number}", got == [*(RISES % minimum for minimum in rises), none], got)
     # a state with the clock 2 and events of the times 1 and 2: at the second the disk fails
     fires = b"fire 0 6465706c6f79 7631 0\nfire 0 6465706c6f79 7632 0\n"
-    state = run_program(["replay"], KEEPING + fires + b"state 0\n")[1].split()[-1].replace(b"4576656e744c54696d6503", b"4576656e744c54696d6502")
+    state = (
+        run_program(["replay"], KEEPING + fires + b"state 0\n")[1].split()[-1].replace(b"4576656e744c54696d6503", b"4576656e744c54696d6502")
+    )
     below = b'slot 1 carries event 1 "deploy" "v1": below the minimum time 2, unchanged since action 3'
     failed = b'slot 2 carries event 2 "deploy" "v2": new, but the disk of "b" failed at %s, as action 2 had planned of number %d from then on; it is stopped until it is opened again'
     unheard = b'nothing of the state was heard of: at the line of the minimum time 2 the disk of "b" failed at an append, as action 2 had planned of number 1 from then on; it is stopped until it is opened again'
@@ -153,7 +170,12 @@ def minimum_times(count):
         (b"ignore", b"append", 1, RISES % 2, below, failed % (b"an append", 1)),
         (b"ignore+events", b"flush", 2, RISES % 2, below, failed % (b"a flush", 2)),
         (b"ignore+events", b"append", 1, unheard),
-        (b"keep", b"append", 1, b'slot 1 carries event 1 "deploy" "v1": ' + failed[len(b'slot 2 carries event 2 "deploy" "v2": ') :] % (b"an append", 1)),
+        (
+            b"keep",
+            b"append",
+            1,
+            b'slot 1 carries event 1 "deploy" "v1": ' + failed[len(b'slot 2 carries event 2 "deploy" "v2": ') :] % (b"an append", 1),
+        ),
     ):
         agents = b"agent 61 4 4 512 8 keep\nagent 62 4 4 512 8 %s\n" % setting
         got = reasons_of(agents + b"inject %s\nbreak 1 %s %d\nmerge 1 0 join\n" % (state, call, failing), 3)

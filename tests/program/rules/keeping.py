@@ -109,7 +109,10 @@ CASES = {
     ),
     "the lines of a merge": [
         ("break flush 5", BROKEN),
-        (merge(state(1, 1, 1, [(5, (b"a", b"b")), (4, (b"c",)), (6, (b"d",))])), "merged, event 0 5 61 - 0, event 0 5 62 - 0, event 0 4 63 - 0, event 0 6 64 - 0"),
+        (
+            merge(state(1, 1, 1, [(5, (b"a", b"b")), (4, (b"c",)), (6, (b"d",))])),
+            "merged, event 0 5 61 - 0, event 0 5 62 - 0, event 0 4 63 - 0, event 0 6 64 - 0",
+        ),
         (deliver(event(3)), FAILED),
     ],
     "a merge that fails": (

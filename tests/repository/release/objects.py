@@ -12,7 +12,9 @@ import digests
 from calls import NAME, SUMS, run_release, release, replace_with_sum, write
 
 # The lines of --verify about the objects that clang-16 makes of the texts.
-CHECKED = "".join(f"checked: the object that clang-16 makes for {target} has the digest of the release\n" for target in ("x86_64", "aarch64"))
+CHECKED = "".join(
+    f"checked: the object that clang-16 makes for {target} has the digest of the release\n" for target in ("x86_64", "aarch64")
+)
 
 
 def compared(count, top, root):
@@ -26,29 +28,59 @@ def compared(count, top, root):
         with open(os.path.join(folder, "serf_agent_c.ll"), "wb") as file:
             file.write(files[f"bindings/source/{target}/serf_agent_c.ll"])
         digest = dict(line.split(" ", 1) for line in files[f"bindings/source/{target}/digests"].decode().splitlines())
-        subprocess.run([digests.CLANG, *digest["flags"].split(), "serf_agent_c.ll", "-o", "made.o"], cwd=folder, check=True, stderr=subprocess.DEVNULL)
+        subprocess.run(
+            [digests.CLANG, *digest["flags"].split(), "serf_agent_c.ll", "-o", "made.o"], cwd=folder, check=True, stderr=subprocess.DEVNULL
+        )
         with open(os.path.join(folder, "made.o"), "rb") as file:
             own = hashlib.sha256(file.read()).hexdigest()
         count.check(f"the digest of the object for {target}", digest["object"] == own and f"--target={target}" in digest["flags"], digest)
-        count.check(f"the digest of the text for {target}", digest["text"] == hashlib.sha256(files[f"bindings/source/{target}/serf_agent_c.ll"]).hexdigest(), digest)
+        count.check(
+            f"the digest of the text for {target}",
+            digest["text"] == hashlib.sha256(files[f"bindings/source/{target}/serf_agent_c.ll"]).hexdigest(),
+            digest,
+        )
     unsigned = "not checked: the signature, without --signers\n"
     answer = run_release(top, "--verify", both)
     count.check("--verify compares the objects", answer == (0, f"{CHECKED}{unsigned}the release is right\n"), answer)
     few = without(root, digests.CLANG)
     answer = run_release(top, "--verify", both, PATH=few)
-    skipped = CHECKED.replace("checked:", "not checked:").replace("has the digest of the release", "").replace(" \n", f": {digests.CLANG} is not on PATH\n")
-    count.check("--verify without clang-16 names what it doesn't compare, and makes the other bytes again", answer == (0, f"{skipped}{unsigned}the release is right\n"), answer)
+    skipped = (
+        CHECKED.replace("checked:", "not checked:")
+        .replace("has the digest of the release", "")
+        .replace(" \n", f": {digests.CLANG} is not on PATH\n")
+    )
+    count.check(
+        "--verify without clang-16 names what it doesn't compare, and makes the other bytes again",
+        answer == (0, f"{skipped}{unsigned}the release is right\n"),
+        answer,
+    )
     answer = release(top, os.path.join(root, "no clang"), PATH=few)
-    count.check("refused without clang-16", answer[0] == 3 and answer[1].startswith(f"release: {digests.CLANG} is not on PATH, and a release has the digests"), answer)
+    count.check(
+        "refused without clang-16",
+        answer[0] == 3 and answer[1].startswith(f"release: {digests.CLANG} is not on PATH, and a release has the digests"),
+        answer,
+    )
     other = os.path.join(few, digests.CLANG)
     write(other, "#!/bin/sh\necho clang version 16.1\n")
     os.chmod(other, 0o755)
     answer = run_release(top, "--verify", both, PATH=few)
-    count.check("--verify with another clang-16", answer[0] == 0 and "for aarch64: clang-16 is 'clang version 16.1' here, and the digest is of 'Debian clang" in answer[1], answer)
+    count.check(
+        "--verify with another clang-16",
+        answer[0] == 0 and "for aarch64: clang-16 is 'clang version 16.1' here, and the digest is of 'Debian clang" in answer[1],
+        answer,
+    )
     answer = release(top, os.path.join(root, "no clang"), PATH=few)
-    count.check("refused with another clang-16", answer[0] == 3 and "is 'clang version 16.1', and not Debian's, and a release has" in answer[1], answer)
+    count.check(
+        "refused with another clang-16",
+        answer[0] == 3 and "is 'clang version 16.1', and not Debian's, and a release has" in answer[1],
+        answer,
+    )
     for what, name, change in (
-        ("another digest", "digests", lambda text: re.sub(rb"(?<=^object )\w", lambda found: b"1" if found[0] == b"0" else b"0", text, flags=re.M)),
+        (
+            "another digest",
+            "digests",
+            lambda text: re.sub(rb"(?<=^object )\w", lambda found: b"1" if found[0] == b"0" else b"0", text, flags=re.M),
+        ),
         ("another text", "serf_agent_c.ll", lambda text: text.replace(b"ret i32 1", b"ret i32 2")),
     ):
         shutil.rmtree(copy, ignore_errors=True)
@@ -58,7 +90,12 @@ def compared(count, top, root):
         sums = "".join(f"{hashlib.sha256(text).hexdigest()}  {name}\n" for name, text in sorted(changed.items()) if name != SUMS).encode()
         replace_with_sum(copy, f"{NAME}.tar.gz", packed({**changed, SUMS: sums}))
         answer = run_release(top, "--verify", copy)
-        count.check(f"--verify: {what}", answer[0] == 1 and "the object that clang-16 makes for aarch64 has another digest, or other flags, than the release says\n" in answer[1], answer)
+        count.check(
+            f"--verify: {what}",
+            answer[0] == 1
+            and "the object that clang-16 makes for aarch64 has another digest, or other flags, than the release says\n" in answer[1],
+            answer,
+        )
 
 
 def without(root, name):
