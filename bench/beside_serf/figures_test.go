@@ -79,7 +79,9 @@ func TestFigures(t *testing.T) {
 	state := messagePushPull{EventLTime: slots + 1, StatusLTimes: map[string]LamportTime{}}
 	for n := uint64(1); n <= slots; n++ {
 		packets = append(packets, packet(t, messageUserEventType, event(n)))
-		state.Events = append(state.Events, &userEvents{LTime: LamportTime(n), Events: []userEvent{{Name: "deploy", Payload: []byte("v0")}}})
+		state.Events = append(
+			state.Events, &userEvents{LTime: LamportTime(n), Events: []userEvent{{Name: "deploy", Payload: []byte("v0")}}},
+		)
 	}
 	whole := packet(t, messagePushPullType, &state)
 	forget := func() {

@@ -127,7 +127,9 @@ func (a *PipeAgent) live() {
 	s.eventMinTime, s.queryMinTime = a.snap.LastEventClock()+1, a.snap.LastQueryClock()+1
 	s.broadcasts, s.eventBroadcasts, s.queryBroadcasts = queue(), queue(), queue()
 	s.eventBuffer, s.queryBuffer = make([]*userEvents, a.config.EventBuffer), make([]*queries, a.config.QueryBuffer)
-	last := map[*LamportClock]LamportTime{&s.clock: a.snap.LastClock(), &s.eventClock: a.snap.LastEventClock(), &s.queryClock: a.snap.LastQueryClock()}
+	last := map[*LamportClock]LamportTime{
+		&s.clock: a.snap.LastClock(), &s.eventClock: a.snap.LastEventClock(), &s.queryClock: a.snap.LastQueryClock(),
+	}
 	for clock, time := range last {
 		clock.Increment()
 		clock.Witness(time)
@@ -135,7 +137,8 @@ func (a *PipeAgent) live() {
 	a.serf, a.handed, a.deadlines, a.closing = s, nil, nil, map[LamportTime]uint64{}
 }
 
-// replyLines returns the lines of the reply to a call: the answer, the packets, and what was handed out, which it also writes to the snapshot.
+// replyLines returns the lines of the reply to a call: the answer, the packets, and what was handed out, which it also writes to
+// the snapshot.
 func (a *PipeAgent) replyLines(answer string) string {
 	lines := []string{answer}
 	packets := append(a.serf.eventBroadcasts.GetBroadcasts(0, 1<<30), a.serf.queryBroadcasts.GetBroadcasts(0, 1<<30)...)
@@ -146,10 +149,12 @@ func (a *PipeAgent) replyLines(answer string) string {
 		switch e := (<-a.events).(type) {
 		case UserEvent:
 			a.snap.processUserEvent(e)
-			lines = append(lines, fmt.Sprintf("event %d %s %s %d", e.LTime, hexed([]byte(e.Name)), hexed(e.Payload), map[bool]int{true: 1}[e.Coalesce]))
+			coalesce := map[bool]int{true: 1}[e.Coalesce]
+			lines = append(lines, fmt.Sprintf("event %d %s %s %d", e.LTime, hexed([]byte(e.Name)), hexed(e.Payload), coalesce))
 		case *Query:
 			a.snap.processQuery(e)
-			lines = append(lines, fmt.Sprintf("handed %d %d %d %s %s", len(a.handed), e.LTime, e.id, hexed([]byte(e.Name)), hexed(e.Payload)))
+			texts := hexed([]byte(e.Name)) + " " + hexed(e.Payload)
+			lines = append(lines, fmt.Sprintf("handed %d %d %d %s", len(a.handed), e.LTime, e.id, texts))
 			a.handed, a.deadlines = append(a.handed, e), append(a.deadlines, a.deadline)
 		}
 	}
@@ -213,8 +218,8 @@ func (a *PipeAgent) restart(words []string) string {
 func (a *PipeAgent) look([]string) string {
 	a.snap.buffered.Flush()
 	s := a.serf
-	return fmt.Sprintf("looked %d %d %d %d %d\nkept %s", s.clock.Time(), s.eventClock.Time(), s.queryClock.Time(), s.eventMinTime, s.queryMinTime,
-		hexed(got(os.ReadFile(a.path()))))
+	clocks := fmt.Sprintf("%d %d %d", s.clock.Time(), s.eventClock.Time(), s.queryClock.Time())
+	return fmt.Sprintf("looked %s %d %d\nkept %s", clocks, s.eventMinTime, s.queryMinTime, hexed(got(os.ReadFile(a.path()))))
 }
 
 func (a *PipeAgent) save([]string) string { a.snap.updateClock(); return "saved" }

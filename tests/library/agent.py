@@ -94,7 +94,7 @@ def installed(count, package):
 
 
 # A setting of agent/internal/config: its flag and its key, either of which may be empty.
-SETTING = re.compile(r'^\t\{"([\w-]*)", "(\w*)", "', re.M)
+SETTING = re.compile(r'^\t\{\s*"([\w-]*)", "(\w*)",\s*"', re.M)
 
 
 def settings_on_page(count):

@@ -96,7 +96,7 @@ class Tree:
         }
         headers = [text_of(path) for path in glob.glob(f"{TOP}/include/*.h") + glob.glob(f"{TOP}/bindings/c/*.h")]
         self.functions = set(re.findall(r"\b(serf_\w+)\(", "\n".join(headers)))
-        self.metrics = set(re.findall(r'\{"(serf_\w+)", "', text_of(f"{TOP}/agent/internal/measure/names.go")))
+        self.metrics = set(re.findall(r'\{\s*"(serf_\w+)",\s*"', text_of(f"{TOP}/agent/internal/measure/names.go")))
         code = "\n".join(sources("src"))
         self.specs = "\n".join(sources("specs"))
         items = re.findall(

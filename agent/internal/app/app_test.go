@@ -26,7 +26,13 @@ import (
 // parseConfig returns the configuration of an agent on loopback, with these flags.
 func parseConfig(t testing.TB, words ...string) config.Config {
 	t.Helper()
-	found, err := config.Parse(append([]string{"-node", "a", "-bind", "127.0.0.1:0", "-rpc-addr", "127.0.0.1:0", "-log-level", "debug", "-profile", "local"}, words...), &testkit.Output{})
+	found, err := config.Parse(
+		append(
+			[]string{"-node", "a", "-bind", "127.0.0.1:0", "-rpc-addr", "127.0.0.1:0", "-log-level", "debug", "-profile", "local"},
+			words...,
+		),
+		&testkit.Output{},
+	)
 	testkit.Must(t, err)
 	return found
 }
@@ -43,7 +49,10 @@ func startApp(t testing.TB, words ...string) (*App, *testkit.Output) {
 func TestLife(t *testing.T) {
 	folder := t.TempDir()
 	handled, tags := filepath.Join(folder, "handled"), filepath.Join(folder, "tags")
-	words := []string{"-snapshot", filepath.Join(folder, "snapshot"), "-tags-file", tags, "-event-handler", "user=(echo $SERF_TAG_SIZE $SERF_USER_LTIME; cat) >> " + handled}
+	words := []string{
+		"-snapshot", filepath.Join(folder, "snapshot"), "-tags-file", tags, "-event-handler",
+		"user=(echo $SERF_TAG_SIZE $SERF_USER_LTIME; cat) >> " + handled,
+	}
 	a, _ := startApp(t, words...)
 	testkit.Must(t, a.UpdateTags(map[string]string{"x": "y"}, nil))
 	// As in Serf, a tag that is both set and deleted is set.
@@ -62,7 +71,8 @@ func TestLife(t *testing.T) {
 		t.Errorf("%q", text)
 	}
 	var written map[string]string
-	if err := json.Unmarshal([]byte(testkit.Read(t, tags)), &written); err != nil || !reflect.DeepEqual(written, map[string]string{"size": "big"}) {
+	if err := json.Unmarshal([]byte(testkit.Read(t, tags)), &written); err != nil ||
+		!reflect.DeepEqual(written, map[string]string{"size": "big"}) {
 		t.Error(written, err)
 	}
 	again, _ := startApp(t, words...)
@@ -122,7 +132,8 @@ func TestStartsThatFail(t *testing.T) {
 			t.Errorf("%s: %v", test.words, err)
 		}
 	}
-	if _, err := Start(parseConfig(t, "-snapshot", filepath.Join(folder, "locked")), &testkit.Output{}); !errors.Is(err, serfagent.ErrLocked) {
+	_, err = Start(parseConfig(t, "-snapshot", filepath.Join(folder, "locked")), &testkit.Output{})
+	if !errors.Is(err, serfagent.ErrLocked) {
 		t.Error(err)
 	}
 }
@@ -173,7 +184,8 @@ func TestReloadOfTagsFile(t *testing.T) {
 		t.Error(tags)
 	}
 	testkit.Write(t, file, "no JSON")
-	if err := a.Reload(parseConfig(t, "-tags-file", file, "-log-level", "err")); err == nil || !strings.Contains(err.Error(), "-tags-file") {
+	if err := a.Reload(parseConfig(t, "-tags-file", file, "-log-level", "err")); err == nil ||
+		!strings.Contains(err.Error(), "-tags-file") {
 		t.Error(err)
 	}
 	// A change to another file of tags needs a restart, and so does a change to no file.
@@ -218,7 +230,11 @@ func TestCheck(t *testing.T) {
 	at, key := listener.Addr().String(), "cg8StVXbQJ0gPvMd9o7yrg=="
 	for _, test := range []struct{ words, says string }{
 		{"", ""},
-		{"-bind " + at + " -rpc-addr " + at + " -snapshot " + folder + "/snapshot -record " + folder + "/record -tag a=b -encrypt " + key + " -keyring-file " + folder + "/keys", ""},
+		{
+			"-bind " + at + " -rpc-addr " + at + " -snapshot " + folder + "/snapshot -record " + folder + "/record -tag a=b -encrypt " +
+				key + " -keyring-file " + folder + "/keys",
+			"",
+		},
 		{"-event-handler foo=bar", "is not an event"},
 		{"-tag a=" + strings.Repeat("x", 600), "exceeds limit of 512"},
 		{"-tags-file " + bad, "-tags-file: "},
@@ -231,7 +247,10 @@ func TestCheck(t *testing.T) {
 		{"-record " + folder, "-record: "},
 		{"-iface none0", "-iface: "},
 		{"-retry-max x", "is not a number"},
-		{"-config-file " + testkit.Write(t, filepath.Join(folder, "syslog"), `{"enable_syslog": true, "syslog_facility": "local9"}`), "syslog has no facility"},
+		{
+			"-config-file " + testkit.Write(t, filepath.Join(folder, "syslog"), `{"enable_syslog": true, "syslog_facility": "local9"}`),
+			"syslog has no facility",
+		},
 	} {
 		var out, errs testkit.Output
 		status := Main(append([]string{"-check", "-node", "a"}, strings.Fields(test.words)...), &out, &errs)
@@ -262,7 +281,8 @@ func TestMembersCommand(t *testing.T) {
 		{[]string{"-x"}, 1, "", "flag provided but not defined"},
 	} {
 		var out, errs testkit.Output
-		if status := Main(append([]string{"members"}, test.words...), &out, &errs); status != test.status || !out.Has(test.out) || !errs.Has(test.errs) {
+		if status := Main(append([]string{"members"}, test.words...), &out, &errs); status != test.status || !out.Has(test.out) ||
+			!errs.Has(test.errs) {
 			t.Errorf("%v: %d %s %s", test.words, status, &out, &errs)
 		}
 	}
@@ -351,14 +371,18 @@ func TestMainStatuses(t *testing.T) {
 		{"-help", 0, "usage: kitchenrue-agent", ""},
 		{"-version", 0, "kitchenrue-agent " + config.Version, ""},
 		{"-foo", 1, "", "kitchenrue-agent: flag provided but not defined: -foo\n"},
-		{"-node a -bind 127.0.0.1:0 -rpc-addr 127.0.0.1:0 -config-file " + faulty, 1, "", "kitchenrue-agent: -syslog: syslog has no facility \"local9\"\n"},
+		{
+			"-node a -bind 127.0.0.1:0 -rpc-addr 127.0.0.1:0 -config-file " + faulty, 1, "",
+			"kitchenrue-agent: -syslog: syslog has no facility \"local9\"\n",
+		},
 		{"-node a -bind 127.0.0.1:0 -rpc-addr 127.0.0.1:0 -join 127.0.0.1:1", 1, "", "connection refused"},
 	} {
 		var out, errs testkit.Output
 		if status := Main(strings.Fields(test.words), &out, &errs); status != test.status {
 			t.Errorf("%s: %d", test.words, status)
 		}
-		if !strings.Contains(out.String(), test.out) || !strings.Contains(errs.String(), test.errs) || strings.Count(errs.String(), "\n") > 1 {
+		if !strings.Contains(out.String(), test.out) || !strings.Contains(errs.String(), test.errs) ||
+			strings.Count(errs.String(), "\n") > 1 {
 			t.Errorf("%s: %q %q", test.words, out.String(), errs.String())
 		}
 	}
@@ -376,8 +400,10 @@ func TestMainMetrics(t *testing.T) {
 		ended <- Main([]string{"-node", "a", "-bind", "127.0.0.1:0", "-rpc-addr", "127.0.0.1:0", "-prometheus-addr", at}, &out, &errs)
 	}()
 	testkit.Eventually(t, "the agent runs", func() bool { return strings.Contains(out.String(), "Log data will now stream") })
-	for _, what := range []string{"\nserf_members 1\n", "\nagent_handlers_waiting 0\n", "\nserf_member_joins_total 1\n", "\nserf_dropped_far_total 0\n",
-		"\nserf_refused_total{reason=\"too_long\"} 0\n", "\nserf_ignored_total{reason=\"too_old\"} 0\n", "\nserf_events_missing 0\n"} {
+	for _, what := range []string{
+		"\nserf_members 1\n", "\nagent_handlers_waiting 0\n", "\nserf_member_joins_total 1\n", "\nserf_dropped_far_total 0\n",
+		"\nserf_refused_total{reason=\"too_long\"} 0\n", "\nserf_ignored_total{reason=\"too_old\"} 0\n", "\nserf_events_missing 0\n",
+	} {
 		testkit.Eventually(t, what, func() bool {
 			answer, err := http.Get("http://" + at + "/metrics")
 			if err != nil {
@@ -404,7 +430,10 @@ func TestMainSignals(t *testing.T) {
 	}{
 		{syscall.SIGINT, nil, 0, "graceful leave", ""},
 		{syscall.SIGTERM, nil, 1, "Shutdown without a Leave", ""},
-		{syscall.SIGTERM, []string{"-snapshot"}, 3, "Shutdown without a Leave", "kitchenrue-agent: the snapshot was changed from outside: "},
+		{
+			syscall.SIGTERM, []string{"-snapshot"}, 3, "Shutdown without a Leave",
+			"kitchenrue-agent: the snapshot was changed from outside: ",
+		},
 		{syscall.SIGINT, []string{"-snapshot"}, 3, "graceful leave", "isn't there any more\n"},
 	} {
 		var out, errs testkit.Output
@@ -421,7 +450,9 @@ func TestMainSignals(t *testing.T) {
 		if test.words != nil {
 			// Before each write of members, the node checks whether the snapshot was changed. If it noticed the missing
 			// file at the first of these writes, it would end before the signals arrive.
-			testkit.Eventually(t, "the node is in its snapshot", func() bool { return strings.Contains(testkit.Read(t, path), "alive: a ") })
+			testkit.Eventually(
+				t, "the node is in its snapshot", func() bool { return strings.Contains(testkit.Read(t, path), "alive: a ") },
+			)
 			testkit.Must(t, os.Remove(path))
 		}
 		for _, signal := range []syscall.Signal{syscall.SIGHUP, test.signal} {
@@ -431,7 +462,8 @@ func TestMainSignals(t *testing.T) {
 		}
 		select {
 		case status := <-ended:
-			if status != test.status || !strings.Contains(out.String(), test.says) || !strings.Contains(errs.String(), test.fault) || (test.fault == "") != (errs.String() == "") {
+			if status != test.status || !strings.Contains(out.String(), test.says) || !strings.Contains(errs.String(), test.fault) ||
+				(test.fault == "") != (errs.String() == "") {
 				t.Errorf("%v: %d %s %s", test.signal, status, &out, &errs)
 			}
 		case <-time.After(2 * time.Minute):
@@ -448,10 +480,12 @@ func TestLimitsOfTheNode(t *testing.T) {
 	conf.MaxMembers, conf.MaxNamesPerAddress = 77, 7
 	a := &App{config: conf, tags: &tags{}, log: logs.New(&testkit.Output{}, logs.Trace)}
 	found, _, err := a.nodeConfig(nil)
-	if err != nil || found.UserEventSizeLimit != 700 || found.QuerySizeLimit != 2000 || found.QueryResponseSizeLimit != 3000 || found.KeepEvents {
+	if err != nil || found.UserEventSizeLimit != 700 || found.QuerySizeLimit != 2000 || found.QueryResponseSizeLimit != 3000 ||
+		found.KeepEvents {
 		t.Errorf("%+v %v", found, err)
 	}
-	if found.ProtocolVersion != 4 || !found.DisableCoordinates || found.EnableNameConflictResolution || found.KeepEventsSize != 1<<20 || found.Guard.Members != 77 ||
+	if found.ProtocolVersion != 4 || !found.DisableCoordinates || found.EnableNameConflictResolution || found.KeepEventsSize != 1<<20 ||
+		found.Guard.Members != 77 ||
 		found.Guard.NamesPerAddress != 7 {
 		t.Errorf("%+v", found)
 	}

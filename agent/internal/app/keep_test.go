@@ -24,7 +24,10 @@ type restartedNode struct {
 func startRestarted(t *testing.T, address string, words ...string) *restartedNode {
 	folder := t.TempDir()
 	b := &restartedNode{t: t, handled: filepath.Join(folder, "handled")}
-	b.args = append([]string{"-node", "b", "-snapshot", filepath.Join(folder, "snapshot"), "-event-handler", "user=(cat; echo) >> " + b.handled}, words...)
+	b.args = append(
+		[]string{"-node", "b", "-snapshot", filepath.Join(folder, "snapshot"), "-event-handler", "user=(cat; echo) >> " + b.handled},
+		words...,
+	)
 	b.start(address)
 	t.Cleanup(func() { b.Close() })
 	return b

@@ -111,7 +111,8 @@ func (a *App) printBanner(out io.Writer) {
 	}
 	fmt.Fprintf(out, "==> The agent is running!\n")
 	for _, line := range [][2]string{
-		{"Node name", fmt.Sprintf("'%s'", a.config.NodeName)}, {"Bind addr", fmt.Sprintf("'%s'", a.node.Memberlist().LocalNode().Address())},
+		{"Node name", fmt.Sprintf("'%s'", a.config.NodeName)},
+		{"Bind addr", fmt.Sprintf("'%s'", a.node.Memberlist().LocalNode().Address())},
 		{"RPC addr", fmt.Sprintf("'%s'", a.server.Load().Addr())}, {"Encrypted", fmt.Sprint(a.node.EncryptionEnabled())},
 		{"Snapshot", snapshot}, {"Profile", a.config.Profile},
 	} {

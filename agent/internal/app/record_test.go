@@ -20,7 +20,10 @@ func TestRecords(t *testing.T) {
 	}
 	pathOf := func(name string) string { return filepath.Join(folder, name) }
 	startNode := func(name, address string) *App {
-		a, _ := startApp(t, "-node", name, "-bind", address, "-snapshot", pathOf(name+".snapshot"), "-record", pathOf(name+".record"), "-event-handler", "query:load=printf 0.12", "-tag", "role="+name)
+		a, _ := startApp(
+			t, "-node", name, "-bind", address, "-snapshot", pathOf(name+".snapshot"), "-record", pathOf(name+".record"), "-event-handler",
+			"query:load=printf 0.12", "-tag", "role="+name,
+		)
 		return a
 	}
 	anyPort := "127.0.0.1:0"
@@ -63,7 +66,8 @@ func TestRecords(t *testing.T) {
 		testkit.Check(t, node.Close())
 	}
 	for name, lives := range map[string]int{"a": 1, "b": 1, "c": 2} {
-		if text := testkit.Read(t, pathOf(name+".record")); strings.Count(text, "\nopen ") != lives || strings.Count(text, "\nevent ") != 3 {
+		if text := testkit.Read(t, pathOf(name+".record")); strings.Count(text, "\nopen ") != lives ||
+			strings.Count(text, "\nevent ") != 3 {
 			t.Error(name, text)
 		}
 	}

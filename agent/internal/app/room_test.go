@@ -18,7 +18,10 @@ func TestHandlersWithoutRoom(t *testing.T) {
 	file := filepath.Join(t.TempDir(), "file")
 	scripts, err := handlers.ParseScripts([]string{"while [ ! -e " + file + " ]; do sleep 0.1; done"})
 	testkit.Must(t, err)
-	a := &App{runner: handlers.New(log.New(io.Discard, "", 0), 0, scripts, func() handlers.Self { return handlers.Self{} }), closing: make(chan struct{})}
+	a := &App{
+		runner:  handlers.New(log.New(io.Discard, "", 0), 0, scripts, func() handlers.Self { return handlers.Self{} }),
+		closing: make(chan struct{}),
+	}
 	defer a.runner.Close(0)
 	a.runner.Add(serf.UserEvent{Name: "deploy"})
 	testkit.Eventually(t, "a handler runs", func() bool { events, _ := a.runner.Waiting(); return events == 0 })

@@ -69,8 +69,8 @@ func printRuns(args []string, out, errs io.Writer) int {
 	return status
 }
 
-// readNodes reads the snapshots that the arguments name. It returns those that can be read, and the exit status. If the arguments are wrong, it
-// reads none.
+// readNodes reads the snapshots that the arguments name. It returns those that can be read, and the exit status. If the
+// arguments are wrong, it reads none.
 func readNodes(arguments []string, errs io.Writer) (nodes []*runs.Node, status int) {
 	var names, paths []string
 	for _, argument := range arguments {

@@ -27,7 +27,9 @@ func lifeStarter(t *testing.T) func(words ...string) *life {
 	return func(words ...string) *life {
 		t.Helper()
 		a, out := startApp(t, append([]string{"-keep-events", "-snapshot", filepath.Join(folder, "snapshot"), "-event-handler",
-			fmt.Sprintf("user=read WORD; echo $WORD >>%s; while [ -e %s/$WORD ]; do sleep 0.01; done; echo end $WORD >>%s", ran, folder, ran)}, words...)...)
+			fmt.Sprintf(
+				"user=read WORD; echo $WORD >>%s; while [ -e %s/$WORD ]; do sleep 0.01; done; echo end $WORD >>%s", ran, folder, ran,
+			)}, words...)...)
 		return &life{a, t, out, ran}
 	}
 }
@@ -66,7 +68,9 @@ func TestOrderlyEndLeavesOpen(t *testing.T) {
 	signals, ended := make(chan os.Signal, 1), make(chan int)
 	go func() { ended <- a.run(nil, signals, a.out, a.out) }()
 	signals <- syscall.SIGTERM
-	testkit.Eventually(t, "the agent ends", func() bool { return a.out.Has("events are waiting for their handlers, which run after the next start") })
+	testkit.Eventually(
+		t, "the agent ends", func() bool { return a.out.Has("events are waiting for their handlers, which run after the next start") },
+	)
 	a.unblock("one")
 	// (Serf's status for an end without a leave)
 	if status := <-ended; status != 1 {
@@ -96,7 +100,9 @@ func TestCutOffHandlerIsReported(t *testing.T) {
 	fire(t, a.App, "two")
 	a.waitForHandled("one")
 	// (a handler's own line can be there before the agent has recorded the process)
-	testkit.Eventually(t, "the process is recorded", func() bool { return strings.Contains(testkit.Read(t, a.config.Snapshot), "\n#process 1 ") })
+	testkit.Eventually(
+		t, "the process is recorded", func() bool { return strings.Contains(testkit.Read(t, a.config.Snapshot), "\n#process 1 ") },
+	)
 	// (this is the snapshot that a kill would leave)
 	snapshot := testkit.Read(t, a.config.Snapshot)
 	a.unblock("one")
@@ -104,7 +110,8 @@ func TestCutOffHandlerIsReported(t *testing.T) {
 	testkit.Must(t, os.Remove(a.ranFile))
 	writeSnapshot(t, a.config.Snapshot, snapshot)
 
-	if text := runsOf(t, 0, "-unfinished", a.config.Snapshot); !strings.Contains(text, "1 x one cut off read (process ") || !strings.Contains(text, ")\n2 x two waiting\n") {
+	if text := runsOf(t, 0, "-unfinished", a.config.Snapshot); !strings.Contains(text, "1 x one cut off read (process ") ||
+		!strings.Contains(text, ")\n2 x two waiting\n") {
 		t.Error(text)
 	}
 
@@ -115,7 +122,8 @@ func TestCutOffHandlerIsReported(t *testing.T) {
 		return strings.HasSuffix(runsOf(t, 0, "-unfinished", b.config.Snapshot), "\n1 x one cut off read\n")
 	})
 	says := `[WARN] agent: a handler of user-event: x (time 1, payload "one") began, and the agent ended before the handler did; it isn't run again`
-	if stats := b.Stats()["agent"]; stats["handlers_unfinished"] != "1" || stats["handlers_still_running"] != "0" || !b.out.Has(says) || stats["handlers_cut_off"] != "1" {
+	if stats := b.Stats()["agent"]; stats["handlers_unfinished"] != "1" || stats["handlers_still_running"] != "0" || !b.out.Has(says) ||
+		stats["handlers_cut_off"] != "1" {
 		t.Error(stats, b.out)
 	}
 	testkit.Eventually(t, "all is done", func() bool { return b.Stats()["serf"]["events_open"] == "0" })
@@ -127,7 +135,8 @@ func TestCutOffHandlerIsReported(t *testing.T) {
 	if !c.out.Has("2 events that an earlier life was handed and that are not done are forgotten") {
 		t.Error(c.out)
 	}
-	if text := runsOf(t, 2, "-event", "x", c.config.Snapshot); !strings.Contains(text, "says nothing of handlers") || !strings.HasSuffix(text, "3 x three unknown\n") {
+	if text := runsOf(t, 2, "-event", "x", c.config.Snapshot); !strings.Contains(text, "says nothing of handlers") ||
+		!strings.HasSuffix(text, "3 x three unknown\n") {
 		t.Error(text)
 	}
 	testkit.Check(t, c.Close())
@@ -152,10 +161,12 @@ func TestRunsCommand(t *testing.T) {
 	testkit.Must(t, os.Chmod(path, 0o400))
 	none, empty := filepath.Join(folder, "none"), testkit.Write(t, filepath.Join(folder, "empty"), "")
 	for words, want := range map[string]string{
-		"web1=" + path: "TIME NAME PAYLOAD web1\n1 a b exit 0\n2 a c waiting\n", "-unfinished web1=" + path: "TIME NAME PAYLOAD web1\n2 a c waiting\n",
+		"web1=" + path:                     "TIME NAME PAYLOAD web1\n1 a b exit 0\n2 a c waiting\n",
+		"-unfinished web1=" + path:         "TIME NAME PAYLOAD web1\n2 a c waiting\n",
 		"-event a -payload b web1=" + path: "TIME NAME PAYLOAD web1\n1 a b exit 0\n", "-event= web1=" + path: "TIME NAME PAYLOAD web1\n",
-		"-json -payload c web1=" + path: `{"node":"web1","time":2,"name":"a","name_hex":"61","payload":"c","payload_hex":"63","state":"waiting"}` + "\n",
-		"-help":                         strings.Join(strings.Fields(runsUsage), " "),
+		"-json -payload c web1=" + path: `{"node":"web1","time":2,"name":"a","name_hex":"61","payload":"c","payload_hex":"63",` +
+			`"state":"waiting"}` + "\n",
+		"-help": strings.Join(strings.Fields(runsUsage), " "),
 	} {
 		found := runsOf(t, 0, strings.Fields(words)...)
 		if words == "-help" {
@@ -170,14 +181,21 @@ func TestRunsCommand(t *testing.T) {
 		status      int
 	}{
 		{"web1=" + path + " web2=" + none, "no such file or directory\nTIME NAME PAYLOAD web1\n1 a b exit 0\n2 a c waiting\n", 1},
-		{"web1=" + path + " web2=" + empty, empty + " says nothing of handlers, since its agent runs without -keep-events\nTIME NAME PAYLOAD web1 web2\n1 a b exit 0 never arrived\n2 a c waiting never arrived\n", 2},
+		{
+			"web1=" + path + " web2=" + empty,
+			empty + " says nothing of handlers, since its agent runs without -keep-events\nTIME NAME PAYLOAD web1 web2\n1 a b exit 0 never arrived\n2 a c waiting never arrived\n",
+			2,
+		},
 		{"web1=" + empty + " web2=" + none, "no such file or directory\nTIME NAME PAYLOAD web1\n", 1},
-		{none, "no such file or directory\n", 1}, {folder, "is not a regular file\n", 1}, {"", "name the snapshot of a node, or several as NODE=FILE\n", 1},
+		{none, "no such file or directory\n", 1}, {folder, "is not a regular file\n", 1},
+		{"", "name the snapshot of a node, or several as NODE=FILE\n", 1},
 		{empty + " -json", "unexpected \"-json\": flags come before the files\n", 1},
-		{empty + " " + empty, "several snapshots have to be named NODE=FILE, each with another NODE\n", 1}, {"a=" + path + " =" + path, "is not of the form NODE=FILE\n", 1},
+		{empty + " " + empty, "several snapshots have to be named NODE=FILE, each with another NODE\n", 1},
+		{"a=" + path + " =" + path, "is not of the form NODE=FILE\n", 1},
 		{"-no " + path, "flag provided but not defined: -no\n", 1},
 	} {
-		if found := runsOf(t, test.status, strings.Fields(test.words)...); !strings.HasSuffix(found, test.want) || !strings.HasPrefix(found, "kitchenrue-agent: runs: ") {
+		if found := runsOf(t, test.status, strings.Fields(test.words)...); !strings.HasSuffix(found, test.want) ||
+			!strings.HasPrefix(found, "kitchenrue-agent: runs: ") {
 			t.Errorf("%s: %q", test.words, found)
 		}
 	}

@@ -135,7 +135,10 @@ func (c *Config) Resolve() error {
 		flag string
 		text *string
 		port int
-	}{{"-bind", &c.Bind, BindPort}, {"-advertise", &c.Advertise, BindPort}, {"-rpc-addr", &c.RPCAddr, RPCPort}, {"-prometheus-addr", &c.PrometheusAddr, PrometheusPort}} {
+	}{
+		{"-bind", &c.Bind, BindPort}, {"-advertise", &c.Advertise, BindPort}, {"-rpc-addr", &c.RPCAddr, RPCPort},
+		{"-prometheus-addr", &c.PrometheusAddr, PrometheusPort},
+	} {
 		if *address.text == "" && (address.text == &c.Advertise || address.text == &c.PrometheusAddr) {
 			continue
 		}

@@ -54,7 +54,8 @@ func TestNamesAreLookedUp(t *testing.T) {
 		switch got := strings.Join([]string{config.Bind, config.Advertise, config.RPCAddr}, " "); {
 		case err == nil && got != test.want:
 			t.Errorf("%+v: %s", test, got)
-		case (err == nil) != (test.says == "") || err != nil && !strings.HasPrefix(err.Error(), test.says) && !strings.Contains(err.Error(), test.says):
+		case (err == nil) != (test.says == "") ||
+			err != nil && !strings.HasPrefix(err.Error(), test.says) && !strings.Contains(err.Error(), test.says):
 			t.Errorf("%+v: %v", test, err)
 		}
 	}
@@ -81,7 +82,8 @@ func TestInterfaces(t *testing.T) {
 		withNames(t, map[string][]string{"localhost": {"127.0.0.1"}})
 		config := Default()
 		config.Interface, config.Bind = test.name, test.bind
-		if err := config.Resolve(); (err == nil) != (test.says == "") || err == nil && config.Bind != test.want || err != nil && !strings.Contains(err.Error(), test.says) {
+		if err := config.Resolve(); (err == nil) != (test.says == "") || err == nil && config.Bind != test.want ||
+			err != nil && !strings.Contains(err.Error(), test.says) {
 			t.Errorf("%+v: %s %v", test, config.Bind, err)
 		}
 	}

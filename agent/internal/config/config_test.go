@@ -31,10 +31,13 @@ func TestFlags(t *testing.T) {
 
 func TestFlagsOverrideFiles(t *testing.T) {
 	folder := t.TempDir()
-	one := testkit.Write(t, filepath.Join(folder, "one"), `{"node_name": "one", "start_join": ["x"], "tags": {"a": "1"}, "rejoin_after_leave": true,
-		"interface": "eth0", "bind": "", "advertise": "", "rpc_addr": "", "snapshot_path": "s", "retry_max_attempts": 7, "reconnect_timeout": "1h", "leave_on_terminate": true, "keep_events": true}`)
+	one := testkit.Write(t, filepath.Join(folder, "one"), `{"node_name": "one", "start_join": ["x"], "tags": {"a": "1"},
+		"rejoin_after_leave": true, "interface": "eth0", "bind": "", "advertise": "", "rpc_addr": "", "snapshot_path": "s",
+		"retry_max_attempts": 7, "reconnect_timeout": "1h", "leave_on_terminate": true, "keep_events": true}`)
 	testkit.Write(t, filepath.Join(folder, "b.json"), `{"node_name": "b", "start_join": ["z"], "tags": null}`)
-	testkit.Write(t, filepath.Join(folder, "a.json"), `{"node_name": "a", "start_join": ["y"], "rpc_auth": "token", "enable_compression": false}`)
+	testkit.Write(
+		t, filepath.Join(folder, "a.json"), `{"node_name": "a", "start_join": ["y"], "rpc_auth": "token", "enable_compression": false}`,
+	)
 	testkit.Write(t, filepath.Join(folder, "c.text"), `{`)
 	found, err := Parse([]string{"-join", "w", "-config-file", one, "-config-dir", folder, "-tag", "b=2"}, io.Discard)
 	testkit.Must(t, err)
@@ -129,9 +132,14 @@ func TestEmptySettings(t *testing.T) {
 		`{"disable_coordinates": false}`:     func(c Config) bool { return !c.DisableCoordinates },
 		`{"disable_name_resolution": false}`: func(c Config) bool { return !c.DisableNameResolution },
 		`{"disable_name_resolution": true}`:  func(c Config) bool { return c.DisableNameResolution },
-		`{"enable_syslog": false, "syslog_facility": "", "discover": "", "interface": "", "role": "", "advertise": ""}`: func(c Config) bool { return !c.Syslog && c.SyslogFacility == "LOCAL0" },
-		`{"enable_syslog": true, "syslog_facility": "DAEMON"}`:                                                          func(c Config) bool { return c.Syslog && c.SyslogFacility == "DAEMON" },
-		`{"statsd_addr": "", "statsite_addr": "", "prometheus_addr": ""}`:                                               func(c Config) bool { return c.StatsdAddr+c.StatsiteAddr+c.PrometheusAddr == "" },
+		`{"enable_syslog": false, "syslog_facility": "", "discover": "", "interface": "", ` +
+			`"role": "", "advertise": ""}`: func(c Config) bool {
+			return !c.Syslog && c.SyslogFacility == "LOCAL0"
+		},
+		`{"enable_syslog": true, "syslog_facility": "DAEMON"}`: func(c Config) bool { return c.Syslog && c.SyslogFacility == "DAEMON" },
+		`{"statsd_addr": "", "statsite_addr": "", "prometheus_addr": ""}`: func(c Config) bool {
+			return c.StatsdAddr+c.StatsiteAddr+c.PrometheusAddr == ""
+		},
 		`{"statsd_addr": "a:1", "statsite_addr": "b:2", "prometheus_addr": "c:3"}`: func(c Config) bool {
 			return c.StatsdAddr == "a:1" && c.StatsiteAddr == "b:2" && c.PrometheusAddr == "c:3"
 		},

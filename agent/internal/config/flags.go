@@ -30,7 +30,9 @@ func Parse(args []string, out io.Writer) (Config, error) {
 	}
 	if flags.NArg() > 0 {
 		return Config{}, fmt.Errorf(
-			"unexpected argument %q, after which no flag would be read: write -FLAG VALUE, or for a switch -FLAG or -FLAG=false", flags.Arg(0))
+			"unexpected argument %q, after which no flag would be read: write -FLAG VALUE, or for a switch -FLAG or -FLAG=false",
+			flags.Arg(0),
+		)
 	}
 	config := Default()
 	for _, path := range files {
@@ -73,7 +75,14 @@ func newFlagSet(assignments *[]assignment, files *[]string) *flag.FlagSet {
 
 // printUsage prints the help text.
 func printUsage(out io.Writer) {
-	fmt.Fprint(out, "usage: kitchenrue-agent [flags]\n       kitchenrue-agent members [-rpc-addr ADDRESS] [-rpc-auth TOKEN]\n       kitchenrue-agent runs [-unfinished] [-json] [-event NAME] [-payload TEXT] FILE\n       kitchenrue-agent runs [-unfinished] [-json] [-event NAME] [-payload TEXT] NODE=FILE..\n\nAn agent for a Serf cluster that runs its handlers at most once for each event.\n\n")
+	fmt.Fprint(out, `usage: kitchenrue-agent [flags]
+       kitchenrue-agent members [-rpc-addr ADDRESS] [-rpc-auth TOKEN]
+       kitchenrue-agent runs [-unfinished] [-json] [-event NAME] [-payload TEXT] FILE
+       kitchenrue-agent runs [-unfinished] [-json] [-event NAME] [-payload TEXT] NODE=FILE..
+
+An agent for a Serf cluster that runs its handlers at most once for each event.
+
+`)
 	for _, setting := range settings {
 		if setting.flag != "" {
 			fmt.Fprintf(out, "  -%-20s %s\n", setting.flag, setting.help)

@@ -34,12 +34,18 @@ func (r *Runner) awaitEarlier(ctx context.Context, e Unfinished) awaitResult {
 	if e.process == nil || !e.process.IsRunning() {
 		return earlierEnded
 	}
-	r.log.Printf("[INFO] agent: a handler of %s is still running as process %d; what runs for it now waits for its end", describe(e.UserEvent), e.process.PID)
+	r.log.Printf(
+		"[INFO] agent: a handler of %s is still running as process %d; what runs for it now waits for its end", describe(e.UserEvent),
+		e.process.PID,
+	)
 	ticker := time.NewTicker(earlierCheckInterval)
 	defer ticker.Stop()
 	for began := time.Now(); e.process.IsRunning(); {
 		if r.timeout > 0 && time.Since(began) > r.timeout {
-			r.log.Printf("[WARN] agent: a handler of %s is still running as process %d after %v, and nothing runs for it", describe(e.UserEvent), e.process.PID, r.timeout)
+			r.log.Printf(
+				"[WARN] agent: a handler of %s is still running as process %d after %v, and nothing runs for it", describe(e.UserEvent),
+				e.process.PID, r.timeout,
+			)
 			return earlierStillRuns
 		}
 		if r.isClosing.Load() {

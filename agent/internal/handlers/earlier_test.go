@@ -60,7 +60,8 @@ func TestEarlierHandlerIsAwaited(t *testing.T) {
 		if calls := tracker.list(); calls != "done gone =cut-off =cut-off" || exists(ran) {
 			t.Errorf("it ran while the earlier handler did: %s", calls)
 		}
-		if !output.Has(fmt.Sprintf("this runs when its process %d, which is still running, has ended: \"echo ran", process.PID)) || r.StillRunning() != 1 || r.Unfinished() != 2 {
+		if !output.Has(fmt.Sprintf("this runs when its process %d, which is still running, has ended: \"echo ran", process.PID)) ||
+			r.StillRunning() != 1 || r.Unfinished() != 2 {
 			t.Error(output, r.StillRunning(), r.Unfinished())
 		}
 		end()
@@ -72,15 +73,16 @@ func TestEarlierHandlerIsAwaited(t *testing.T) {
 	}
 }
 
-// If the earlier handler is still running after the timeout, the agent reports that and runs nothing for the event. If the agent ends meanwhile,
-// the event stays open.
+// If the earlier handler is still running after the timeout, the agent reports that and runs nothing for the event. If the
+// agent ends meanwhile, the event stays open.
 func TestEarlierHandlerThatDoesNotEnd(t *testing.T) {
 	t.Parallel()
 	process, _ := startEarlierHandler(t, nil)
 	r, tracker, output := trackedRunner(t, 200*time.Millisecond, "rerun:deploy=echo ran")
 	r.Resume([]serf.UnfinishedEvent{cutOffIn("deploy", process)})
 	tracker.waitUntil(t, "done a before=still-running")
-	if !output.Has(fmt.Sprintf("is still running as process %d after 200ms, and nothing runs for it", process.PID)) || output.Has("output: ran") {
+	if !output.Has(fmt.Sprintf("is still running as process %d after 200ms, and nothing runs for it", process.PID)) ||
+		output.Has("output: ran") {
 		t.Error(output)
 	}
 	r.Close(time.Minute)
@@ -101,7 +103,9 @@ func TestEarlierHandlerIsReported(t *testing.T) {
 	for _, isRunning := range []bool{true, false} {
 		r, tracker, output := trackedRunner(t, 0, "user:deploy=echo ran")
 		r.Resume([]serf.UnfinishedEvent{cutOffIn("deploy", process)})
-		status, says, count := "still-running", fmt.Sprintf("before the handler did; its process %d is still running, and it isn't run again\n", process.PID), int64(1)
+		status, says, count := "still-running", fmt.Sprintf(
+			"before the handler did; its process %d is still running, and it isn't run again\n", process.PID,
+		), int64(1)
 		if !isRunning {
 			status, says, count = "cut-off", "before the handler did; it isn't run again\n", 0
 		}
@@ -114,8 +118,9 @@ func TestEarlierHandlerIsReported(t *testing.T) {
 	}
 }
 
-// An agent that is killed before it records the process of a handler leaves that process running. The next life finds it by the environment of
-// its event, and by its process group, which it leads. Processes that the handler itself started are not taken for the handler.
+// An agent that is killed before it records the process of a handler leaves that process running. The next life finds it by
+// the environment of its event, and by its process group, which it leads. Processes that the handler itself started are not
+// taken for the handler.
 func TestEarlierHandlerIsFoundByItsEnvironment(t *testing.T) {
 	t.Parallel()
 	environmentOf := func(node, event string, time int) []string {
@@ -130,10 +135,14 @@ func TestEarlierHandlerIsFoundByItsEnvironment(t *testing.T) {
 		node, event string
 		time        int
 		isFound     bool
-	}{{node, "deploy", 7, true}, {node, "deploy", 8, false}, {node, "deplo", 7, false}, {node + "2", "deploy", 7, false}, {node, "background", 7, false}, {node, "service", 7, false}} {
+	}{
+		{node, "deploy", 7, true}, {node, "deploy", 8, false}, {node, "deplo", 7, false}, {node + "2", "deploy", 7, false},
+		{node, "background", 7, false}, {node, "service", 7, false},
+	} {
 		var handlers earlierHandlers
 		found := handlers.find(test.node, serf.UserEvent{Name: test.event, LTime: serf.LamportTime(test.time)})
-		if (found != nil) != test.isFound || found != nil && (found.PID != process.PID || found.Start != process.Start || !found.IsRunning()) {
+		if (found != nil) != test.isFound ||
+			found != nil && (found.PID != process.PID || found.Start != process.Start || !found.IsRunning()) {
 			t.Errorf("%v: %v", test, found)
 		}
 	}
@@ -177,7 +186,8 @@ func TestProcessesAreRecorded(t *testing.T) {
 func TestStatuses(t *testing.T) {
 	t.Parallel()
 	for script, want := range map[string]string{
-		"true": "true=0", "exit 3": "exit=3", "kill -9 $$": "kill=signal-9", "sleep 100": "sleep=timed-out", "true " + strings.Repeat("x", 200000): "true=not-started",
+		"true": "true=0", "exit 3": "exit=3", "kill -9 $$": "kill=signal-9", "sleep 100": "sleep=timed-out",
+		"true " + strings.Repeat("x", 200000): "true=not-started",
 	} {
 		timeout := time.Minute
 		if script == "sleep 100" {

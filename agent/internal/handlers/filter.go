@@ -61,12 +61,16 @@ func parseFilters(text, extraKinds string) (Filters, error) {
 			if hasName && name == "" {
 				return nil, fmt.Errorf("the filter %q has no name after the colon", word)
 			}
-		case kind == "*", kind == "member-join", kind == "member-leave", kind == "member-failed", kind == "member-update", kind == "member-reap":
+		case kind == "*", kind == "member-join", kind == "member-leave", kind == "member-failed", kind == "member-update",
+			kind == "member-reap":
 			if hasName {
 				return nil, fmt.Errorf("the filter %q doesn't accept a name", word)
 			}
 		default:
-			return nil, fmt.Errorf("%q is not an event: use *, member-join, member-leave, member-failed, member-update, member-reap, user, user:NAME, query or query:NAME%s", word, extraKinds)
+			return nil, fmt.Errorf(
+				"%q is not an event: use *, member-join, member-leave, member-failed, member-update, member-reap, user, user:NAME, query or query:NAME%s",
+				word, extraKinds,
+			)
 		}
 		filters = append(filters, Filter{kind, name})
 	}

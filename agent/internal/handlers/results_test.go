@@ -54,7 +54,8 @@ func TestResultsAtTheEnd(t *testing.T) {
 		t.Error(counted)
 	}
 	for _, says := range []string{
-		fmt.Sprint(loggedDropped+2, " events will not reach their handlers"), `no handler was run for user-event: deploy (time 0, payload "v1")`,
+		fmt.Sprint(loggedDropped+2, " events will not reach their handlers"),
+		`no handler was run for user-event: deploy (time 0, payload "v1")`,
 		"no handler was run for 2 more events", `"true" of user-event: deploy (time 0, payload "v0") was not run`,
 		"it was ended, since the agent is shutting down",
 	} {
@@ -94,7 +95,8 @@ func TestFailureIsDescribed(t *testing.T) {
 	r.Add(serf.MemberEvent{Type: serf.EventMemberFailed, Members: make([]serf.Member, loggedMembers+1)})
 	r.Close(time.Minute)
 	for _, says := range []string{
-		`of user-event: deploy (time 17, payload "v42\n") failed after `, "s: it ended with exit status 7; its output ends with ..\"x", `cannot reach db\n"`,
+		`of user-event: deploy (time 17, payload "v42\n") failed after `, "s: it ended with exit status 7; its output ends with ..\"x",
+		`cannot reach db\n"`,
 		`payload "` + strings.Repeat("y", loggedPayload) + `".. (300 bytes)`, "and 1 more) failed after", "it wrote nothing",
 	} {
 		if !output.Has(says) {
@@ -111,7 +113,8 @@ func TestFailureIsDescribed(t *testing.T) {
 // Names are short, unique and from a small alphabet.
 func TestNamesOfScripts(t *testing.T) {
 	scripts, err := ParseScripts([]string{
-		"user:a=/usr/local/bin/deploy --now", "user:b=deploy", "query=exec sudo A=1 /opt/my tool", "user=" + strings.Repeat("x", 99), "user=(cat; x) >> y", "user=A=1",
+		"user:a=/usr/local/bin/deploy --now", "user:b=deploy", "query=exec sudo A=1 /opt/my tool", "user=" + strings.Repeat("x", 99),
+		"user=(cat; x) >> y", "user=A=1",
 		"member-join=deploy",
 	})
 	testkit.Must(t, err)
@@ -119,7 +122,9 @@ func TestNamesOfScripts(t *testing.T) {
 	for _, script := range scripts {
 		names = append(names, script.Name)
 	}
-	if want := []string{"deploy", "deploy-2", "my", strings.Repeat("x", maxScriptName), "_cat_", "A_1", "deploy-3"}; !reflect.DeepEqual(names, want) {
+	if want := []string{
+		"deploy", "deploy-2", "my", strings.Repeat("x", maxScriptName), "_cat_", "A_1", "deploy-3",
+	}; !reflect.DeepEqual(names, want) {
 		t.Errorf("%q", names)
 	}
 }

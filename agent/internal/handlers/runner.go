@@ -194,7 +194,9 @@ func (r *Runner) runAll(ctx context.Context, runs []scriptRun) (ended []serf.Han
 		if ctx.Err() != nil {
 			isWhole = false
 			r.counts.countResult(run.script, NeverRun)
-			r.log.Printf("[WARN] agent: the handler %q of %s was not run, since the agent is shutting down", run.script.Command, describe(run.event))
+			r.log.Printf(
+				"[WARN] agent: the handler %q of %s was not run, since the agent is shutting down", run.script.Command, describe(run.event),
+			)
 			continue
 		}
 		result := r.run(ctx, run)
@@ -222,11 +224,17 @@ func (r *Runner) run(ctx context.Context, run scriptRun) scriptResult {
 		r.log.Printf("[WARN] agent: the handler %q of %s took %v", script.Command, e, took)
 	}
 	if result.written > MaxOutput {
-		r.log.Printf("[WARN] agent: the handler %q of %s wrote %d bytes, of which the last %d are kept", script.Command, e, result.written, MaxOutput)
+		r.log.Printf(
+			"[WARN] agent: the handler %q of %s wrote %d bytes, of which the last %d are kept", script.Command, e, result.written,
+			MaxOutput,
+		)
 	}
 	r.log.Printf("[DEBUG] agent: Event '%s' script output: %s", e.EventType(), result.output)
 	if result.err != nil {
-		r.log.Printf("[ERR] agent: the handler %q of %s failed after %v: %v; %s", script.Command, describe(e), took, exitReason(result.err), result.lastOutput())
+		r.log.Printf(
+			"[ERR] agent: the handler %q of %s failed after %v: %v; %s", script.Command, describe(e), took, exitReason(result.err),
+			result.lastOutput(),
+		)
 		return result
 	}
 	if query, ok := e.(*serf.Query); ok && result.written > 0 {

@@ -77,7 +77,10 @@ func TestAnswers(t *testing.T) {
 
 func TestScriptsThatDoNotEnd(t *testing.T) {
 	t.Parallel()
-	for _, script := range []string{"sleep 100", "sleep 100 & sleep 100", "yes", "trap '' TERM; sleep 0.2; yes > /dev/null", "for i in $(seq 200); do sleep 100 & done; wait"} {
+	for _, script := range []string{
+		"sleep 100", "sleep 100 & sleep 100", "yes", "trap '' TERM; sleep 0.2; yes > /dev/null",
+		"for i in $(seq 200); do sleep 100 & done; wait",
+	} {
 		script := script
 		t.Run(script, func(t *testing.T) {
 			t.Parallel()

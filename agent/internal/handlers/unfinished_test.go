@@ -91,7 +91,9 @@ func (f *fakeTracker) waitUntil(t *testing.T, calls string) {
 func TestHandlersAreTracked(t *testing.T) {
 	t.Parallel()
 	ran := filepath.Join(t.TempDir(), "ran")
-	r, tracker, _ := trackedRunner(t, 500*time.Millisecond, "user:deploy=cat >>"+ran, "user:deploy=false", "user:long=sleep 100", "query,member-join=true")
+	r, tracker, _ := trackedRunner(
+		t, 500*time.Millisecond, "user:deploy=cat >>"+ran, "user:deploy=false", "user:long=sleep 100", "query,member-join=true",
+	)
 	r.Add(userEventOf("none", "none"))
 	tracker.waitUntil(t, "done none")
 	r.Add(userEventOf("deploy", "a"))
@@ -117,7 +119,8 @@ func TestNoHandlerWithoutBegin(t *testing.T) {
 		r.Add(userEventOf("deploy", "a"))
 		tracker.waitUntil(t, "begin a")
 		r.Close(time.Minute)
-		if text := output.String(); strings.Contains(text, "ran\n") || !strings.Contains(text, says) || says == "" && text != "" || tracker.list() != "begin a" {
+		if text := output.String(); strings.Contains(text, "ran\n") || !strings.Contains(text, says) || says == "" && text != "" ||
+			tracker.list() != "begin a" {
 			t.Errorf("%v: %q %s", err, text, tracker.list())
 		}
 	}
@@ -179,10 +182,15 @@ func TestResume(t *testing.T) {
 	t.Parallel()
 	ran := filepath.Join(t.TempDir(), "ran")
 	write := "echo $SERF_EVENT $SERF_USER_EVENT $SERF_USER_LTIME $SERF_USER_RERUN. $(cat) >>" + ran
-	r, tracker, output := trackedRunner(t, 0, "user:plain=echo plain; "+write, "rerun:again=echo again; "+write, "unfinished:special=echo special; "+write, "user:special=true")
+	r, tracker, output := trackedRunner(
+		t, 0, "user:plain=echo plain; "+write, "rerun:again=echo again; "+write, "unfinished:special=echo special; "+write,
+		"user:special=true",
+	)
 	r.Resume([]serf.UnfinishedEvent{
-		unfinishedEvent("plain", "1", 1), unfinishedEvent("plain", "2", 0), unfinishedEvent("again", "3", 1), unfinishedEvent("again", "4", 2),
-		unfinishedEvent("special", "5", 1), unfinishedEvent("special", "6", 2), unfinishedEvent("gone", "7", 0), unfinishedEvent("again", "8", 0),
+		unfinishedEvent("plain", "1", 1), unfinishedEvent("plain", "2", 0), unfinishedEvent("again", "3", 1),
+		unfinishedEvent("again", "4", 2),
+		unfinishedEvent("special", "5", 1), unfinishedEvent("special", "6", 2), unfinishedEvent("gone", "7", 0),
+		unfinishedEvent("again", "8", 0),
 	})
 	r.Add(userEventOf("plain", "new"))
 	testkit.Eventually(t, "the new event is done", func() bool { return strings.HasSuffix(tracker.list(), "done new echo=0") })
@@ -222,7 +230,8 @@ func TestResume(t *testing.T) {
 // Only handlers can have these kinds of filters. A client's stream can't have them.
 func TestFiltersOfHandlers(t *testing.T) {
 	for text, want := range map[string]Filters{
-		"unfinished": {{"unfinished", ""}}, "rerun:deploy,member-join": {{"rerun", "deploy"}, {"member-join", ""}}, "unfinished:x": {{"unfinished", "x"}},
+		"unfinished": {{"unfinished", ""}}, "rerun:deploy,member-join": {{"rerun", "deploy"}, {"member-join", ""}},
+		"unfinished:x": {{"unfinished", "x"}},
 	} {
 		script, err := ParseScript(text + "=true")
 		if err != nil || !reflect.DeepEqual(script.Filters, want) {

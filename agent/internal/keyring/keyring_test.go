@@ -53,7 +53,9 @@ func TestKeysAreBounded(t *testing.T) {
 
 func TestBadFiles(t *testing.T) {
 	folder := t.TempDir()
-	for name, content := range map[string]string{"a": "", "b": "{}", "c": "[]", "d": `["x"]`, "e": `["QUJD"]`, "f": strings.Repeat(" ", maxFile+1)} {
+	for name, content := range map[string]string{
+		"a": "", "b": "{}", "c": "[]", "d": `["x"]`, "e": `["QUJD"]`, "f": strings.Repeat(" ", maxFile+1),
+	} {
 		path := filepath.Join(folder, name)
 		testkit.Write(t, path, content)
 		if _, err := Open(path, nil); err == nil || !strings.Contains(err.Error(), "-keyring-file") {

@@ -92,7 +92,14 @@ type Log struct {
 
 // New makes a log that writes the lines of this level and above to out.
 func New(out io.Writer, level Level) *Log {
-	l := &Log{out: out, level: level, followers: map[*Follower]struct{}{}, limits: map[string]*limit{}, interval: limitInterval, isJournal: IsJournal(out)}
+	l := &Log{
+		out:       out,
+		level:     level,
+		followers: map[*Follower]struct{}{},
+		limits:    map[string]*limit{},
+		interval:  limitInterval,
+		isJournal: IsJournal(out),
+	}
 	l.Logger = log.New(l, "", log.LstdFlags)
 	return l
 }

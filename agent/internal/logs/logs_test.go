@@ -146,7 +146,8 @@ func TestSyslog(t *testing.T) {
 		count, err := syslogd.Read(buffer)
 		got := string(buffer[:count])
 		head, text, _ := strings.Cut(want, " ")
-		if err != nil || !strings.HasPrefix(got, head) || !strings.HasSuffix(strings.TrimSpace(got), text) || !strings.Contains(got, " serf[") {
+		if err != nil || !strings.HasPrefix(got, head) || !strings.HasSuffix(strings.TrimSpace(got), text) ||
+			!strings.Contains(got, " serf[") {
 			t.Errorf("%q: %q %v", want, got, err)
 		}
 	}
@@ -165,7 +166,9 @@ func TestJournal(t *testing.T) {
 	info, err := file.Stat()
 	testkit.Must(t, err)
 	stat := info.Sys().(*syscall.Stat_t)
-	for stream, want := range map[string]bool{fmt.Sprint(stat.Dev, ":", stat.Ino): true, fmt.Sprint(stat.Dev, ":", stat.Ino+1): false, "": false, "x": false} {
+	for stream, want := range map[string]bool{
+		fmt.Sprint(stat.Dev, ":", stat.Ino): true, fmt.Sprint(stat.Dev, ":", stat.Ino+1): false, "": false, "x": false,
+	} {
 		t.Setenv("JOURNAL_STREAM", stream)
 		if IsJournal(file) != want || IsJournal(&bytes.Buffer{}) {
 			t.Error(stream)
@@ -178,7 +181,8 @@ func TestJournal(t *testing.T) {
 	}
 	l.SetFlags(0)
 	l.Print("[ERR] a line without a time")
-	if text := testkit.Read(t, file.Name()); text != "<7>[TRACE] a\n<7>[DEBUG] b\n<6>[INFO] c\n<6>d\n<4>[WARN] e\n<4>| f\n<3>[ERR] g\n<3>[ERR] a line without a time\n" {
+	want := "<7>[TRACE] a\n<7>[DEBUG] b\n<6>[INFO] c\n<6>d\n<4>[WARN] e\n<4>| f\n<3>[ERR] g\n<3>[ERR] a line without a time\n"
+	if text := testkit.Read(t, file.Name()); text != want {
 		t.Errorf("%q", text)
 	}
 	if text := Sentence(file, "x"); text != "<3>x" || Sentence(&bytes.Buffer{}, "x") != "x" {
@@ -200,7 +204,8 @@ func TestNamedKinds(t *testing.T) {
 		if count := strings.Count(kept, ": x"); count != maxLines || strings.Count(kept, ": deploy") != 3*maxLines {
 			t.Error(level, count, kept)
 		}
-		if written := strings.Count(out.String(), "Received event"); written != strings.Count(kept, "Received event") && level == Info || written > 0 && level == Warn {
+		if written := strings.Count(out.String(), "Received event"); written != strings.Count(kept, "Received event") && level == Info ||
+			written > 0 && level == Warn {
 			t.Error(level, written)
 		}
 		l.endInterval("agent: Received event without a handler")
@@ -235,13 +240,18 @@ func TestLimits(t *testing.T) {
 		l.Printf("[INFO] serf: EventMemberJoin: x%d 127.0.0.1", i)
 		l.Printf("[WARN] agent: the handler %d", i)
 	}
-	for what, want := range map[string]int{"Got ping": maxLines, "Name conflict": maxLines, "EventMemberJoin": flood, "the handler": flood} {
+	for what, want := range map[string]int{
+		"Got ping": maxLines, "Name conflict": maxLines, "EventMemberJoin": flood, "the handler": flood,
+	} {
 		if count := strings.Count(out.String(), what); count != want {
 			t.Error(what, count)
 		}
 	}
 	l.endInterval("memberlist: Got ping for")
-	if says := fmt.Sprint("[WARN] agent: ", flood-maxLines, " more lines of this kind were left out within 1h0m0s, the latest: memberlist: Got ping for unexpected node 'x29'"); !out.Has(says) {
+	if says := fmt.Sprint(
+		"[WARN] agent: ", flood-maxLines,
+		" more lines of this kind were left out within 1h0m0s, the latest: memberlist: Got ping for unexpected node 'x29'",
+	); !out.Has(says) {
 		t.Error(out.String())
 	}
 	l.Print("[WARN] memberlist: Got ping for unexpected node again")

@@ -30,7 +30,11 @@ func IsFacility(name string) bool {
 
 // severities are the syslog severities of the levels, as in Serf.
 var severities = map[Level]func(*syslog.Writer, string) error{
-	Trace: (*syslog.Writer).Debug, Debug: (*syslog.Writer).Info, Info: (*syslog.Writer).Notice, Warn: (*syslog.Writer).Warning, Err: (*syslog.Writer).Err,
+	Trace: (*syslog.Writer).Debug,
+	Debug: (*syslog.Writer).Info,
+	Info:  (*syslog.Writer).Notice,
+	Warn:  (*syslog.Writer).Warning,
+	Err:   (*syslog.Writer).Err,
 }
 
 // ToSyslog also sends the lines that the log writes from now on to syslog, until stop is called. If network and address

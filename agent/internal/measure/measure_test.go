@@ -79,7 +79,11 @@ func TestSinks(t *testing.T) {
 	m, err := Start(statsite.Addr().String(), statsd.LocalAddr().String(), "127.0.0.1:0", &dumps)
 	testkit.Must(t, err)
 	m.Watch(func() map[string]map[string]string {
-		return map[string]map[string]string{"agent": {"handlers_waiting": "3", "name": "a"}, "serf": {"dropped_far": "17", "refused_full": "5", "refused_too_long": "0", "ignored_too_old": "2"}, "runtime": {"goroutines": "5"}}
+		return map[string]map[string]string{
+			"agent":   {"handlers_waiting": "3", "name": "a"},
+			"serf":    {"dropped_far": "17", "refused_full": "5", "refused_too_long": "0", "ignored_too_old": "2"},
+			"runtime": {"goroutines": "5"},
+		}
 	})
 	metrics.IncrCounter([]string{"serf", "events"}, 1)
 	metrics.IncrCounter([]string{"serf", "events"}, 1)
@@ -90,14 +94,17 @@ func TestSinks(t *testing.T) {
 	metrics.AddSample([]string{"serf", "msgs", "received"}, 8)
 	metrics.SetGauge([]string{"x"}, 4)
 	metrics.IncrCounter([]string{"serf", "oddName"}, 1)
-	metrics.IncrCounterWithLabels([]string{"agent", "handler", "results"}, 1, []metrics.Label{{Name: "handler", Value: `a\"b`}, {Name: "result", Value: "failed"}})
+	metrics.IncrCounterWithLabels(
+		[]string{"agent", "handler", "results"}, 1, []metrics.Label{{Name: "handler", Value: `a\"b`}, {Name: "result", Value: "failed"}},
+	)
 	metrics.AddSampleWithLabels([]string{"agent", "handler", "duration"}, 1500, []metrics.Label{{Name: "handler", Value: "deploy"}})
 	metrics.AddSample([]string{"agent", "invoke", "exit 3"}, 1500)
 	// The growth of each counter is sent, and each counter appears on the page once.
 	m.sendFigures(figures(m.page.stats))
 	m.sendFigures(figures(m.page.stats))
 	for _, what := range []string{
-		"statsite serf-agent.serf.events:1.000000|c", "statsd serf-agent.serf.events:1.000000|c", "statsd serf-agent.serf.events.de-ploy:1.000000|c",
+		"statsite serf-agent.serf.events:1.000000|c", "statsd serf-agent.serf.events:1.000000|c",
+		"statsd serf-agent.serf.events.de-ploy:1.000000|c",
 		"statsite serf-agent.serf.msgs.received:7.000000|ms", "statsd serf-agent.serf.msgs.received:8.000000|ms", ".x:4.000000|g",
 		"statsd serf-agent.serf.refused_full:5.000000|c", ".agent.handlers_waiting:3.000000|g",
 	} {
@@ -105,15 +112,20 @@ func TestSinks(t *testing.T) {
 	}
 	text := fetchPage(t, m.page.listener.Addr())
 	for _, what := range []string{
-		"# TYPE serf_events_total counter\nserf_events_total 2\n", "# TYPE serf_events_by_name_total counter\nserf_events_by_name_total{name=\"de-ploy\"} 1\n",
+		"# TYPE serf_events_total counter\nserf_events_total 2\n",
+		"# TYPE serf_events_by_name_total counter\nserf_events_by_name_total{name=\"de-ploy\"} 1\n",
 		"serf_queries_by_name_total{name=\"q\"} 1\nserf_queries_by_name_total{name=\"r\"} 1\n",
-		"# TYPE serf_messages_received_bytes summary\nserf_messages_received_bytes_count 2\nserf_messages_received_bytes_sum 15\n", "# TYPE x gauge\nx 4\n",
-		"# TYPE agent_handlers_waiting gauge\nagent_handlers_waiting 3\n", "# TYPE serf_dropped_far_total counter\nserf_dropped_far_total 17\n",
-		"# TYPE serf_refused_total counter\nserf_refused_total{reason=\"full\"} 5\nserf_refused_total{reason=\"too_long\"} 0\n", "serf_ignored_total{reason=\"too_old\"} 2\n",
+		"# TYPE serf_messages_received_bytes summary\nserf_messages_received_bytes_count 2\nserf_messages_received_bytes_sum 15\n",
+		"# TYPE x gauge\nx 4\n",
+		"# TYPE agent_handlers_waiting gauge\nagent_handlers_waiting 3\n",
+		"# TYPE serf_dropped_far_total counter\nserf_dropped_far_total 17\n",
+		"# TYPE serf_refused_total counter\nserf_refused_total{reason=\"full\"} 5\nserf_refused_total{reason=\"too_long\"} 0\n",
+		"serf_ignored_total{reason=\"too_old\"} 2\n",
 		"agent_handler_results_total{handler=\"a\\\\\\\"b\",result=\"failed\"} 1\n",
 		"# TYPE agent_handler_duration_seconds summary\nagent_handler_duration_seconds_count{handler=\"deploy\"} 1\nagent_handler_duration_seconds_sum{handler=\"deploy\"} 1.5\n",
 		"# HELP serf_odd_name_total The metric serf.oddName of go-metrics.\n# TYPE serf_odd_name_total counter\n",
-		"\nprocess_resident_memory_bytes ", "\nprocess_start_time_seconds ", "\nprocess_cpu_seconds_total ", "\nprocess_open_fds ", "\nprocess_max_fds ", "\nprocess_virtual_memory_bytes ",
+		"\nprocess_resident_memory_bytes ", "\nprocess_start_time_seconds ", "\nprocess_cpu_seconds_total ", "\nprocess_open_fds ",
+		"\nprocess_max_fds ", "\nprocess_virtual_memory_bytes ",
 		"\nkitchenrue_agent_build_info{goversion=\"" + runtime.Version() + "\",version=\"" + config.Version + "\"} 1\n",
 	} {
 		if !strings.Contains(text, what) {

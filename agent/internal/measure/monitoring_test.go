@@ -75,7 +75,9 @@ func TestMonitoring(t *testing.T) {
 	if err != nil {
 		t.Skip("promtool isn't installed")
 	}
-	for _, words := range []string{"check config prometheus.yml", "check rules --lint=all --lint-fatal alerts.yml", "test rules alerts.test.yml"} {
+	for _, words := range []string{
+		"check config prometheus.yml", "check rules --lint=all --lint-fatal alerts.yml", "test rules alerts.test.yml",
+	} {
 		check := exec.Command(promtool, strings.Fields(words)...)
 		check.Dir = monitoring
 		if said, err := check.CombinedOutput(); err != nil {

@@ -107,7 +107,10 @@ func writeTotals(to io.Writer, all []total) {
 			lastFamily = family.name
 		}
 		if family.kind == "summary" {
-			fmt.Fprintf(to, "%s_count%s %v\n%s_sum%s %v\n", family.name, total.labels, total.count, family.name, total.labels, family.inUnit(total.sum))
+			fmt.Fprintf(
+				to, "%s_count%s %v\n%s_sum%s %v\n", family.name, total.labels, total.count, family.name, total.labels,
+				family.inUnit(total.sum),
+			)
 		} else {
 			fmt.Fprintf(to, "%s%s %v\n", family.name, total.labels, family.inUnit(total.sum))
 		}

@@ -102,7 +102,8 @@ func (l *lines) writeOpen(name string, settings serfagent.Settings, text []byte,
 	}
 	l.line("open").bytes([]byte(name)).number(settings.EventBuffer).number(settings.QueryBuffer).number(settings.EventLimit)
 	l.number(settings.Responders).word(mode).number(settings.PerTime)
-	if defaults := serfagent.DefaultSettings(); settings.QueryLimit != defaults.QueryLimit || settings.ResponseLimit != defaults.ResponseLimit {
+	defaults := serfagent.DefaultSettings()
+	if settings.QueryLimit != defaults.QueryLimit || settings.ResponseLimit != defaults.ResponseLimit {
 		l.number(settings.QueryLimit).number(settings.ResponseLimit)
 	}
 	l.bytes(text)

@@ -42,7 +42,9 @@ func openRecordedWith(t *testing.T, name, folder string, limit int64, settings s
 
 // The open call in a record has the limits of packets only if they differ from Serf's.
 func TestLimitsOfPackets(t *testing.T) {
-	for limits, want := range map[[2]uint64]string{{1024, 1024}: "1024 -", {2000, 1024}: "1024 2000 1024 -", {1024, 300}: "1024 1024 300 -"} {
+	for limits, want := range map[[2]uint64]string{
+		{1024, 1024}: "1024 -", {2000, 1024}: "1024 2000 1024 -", {1024, 300}: "1024 1024 300 -",
+	} {
 		settings, l := serfagent.DefaultSettings(), &lines{}
 		settings.QueryLimit, settings.ResponseLimit = limits[0], limits[1]
 		l.writeOpen("a", settings, nil, serfagent.Clocks{Member: 1, Event: 1, Query: 1})
@@ -116,7 +118,8 @@ func TestCallsAndReplies(t *testing.T) {
 	hexed := func(data []byte) string { return fmt.Sprintf("%x", data) }
 	want := "# kitchenrue-agent record 2\nopen 61 512 512 512 1024 ignore 1024 -\nopened 1 1 1\n\n" +
 		"fire 6465706c6f79 7631 0\nfired 1\nsent " + hexed(fired) + "\nevent 1 6465706c6f79 7631 0\n\n" +
-		"query 5 7 6c6f6164 - 1000 1\nqueried 1\nsent " + hexed(query.Packet) + "\nsent " + hexed(query.Ack) + "\nhanded 0 1 7 6c6f6164 -\n\n" +
+		"query 5 7 6c6f6164 - 1000 1\nqueried 1\nsent " + hexed(query.Packet) + "\nsent " + hexed(query.Ack) +
+		"\nhanded 0 1 7 6c6f6164 -\n\n" +
 		"deliver " + hexed(outcomes[2].Received.Ack) + " 20\nack\ncounted ack 1 7 62\n\n" +
 		"deliver " + hexed(reply) + " 20\nresponse\ncounted response 1 7 62 31\n\n" +
 		"deliver " + hexed(reply) + " 20\nignored ResponseTwice\n\n" +
@@ -127,7 +130,8 @@ func TestCallsAndReplies(t *testing.T) {
 	want = "# kitchenrue-agent record 2\nopen 62 512 512 512 1024 ignore 1024 -\nopened 1 1 1\n\n" +
 		"deliver " + hexed(fired) + " 9\nnew\nsent " + hexed(fired) + "\nevent 1 6465706c6f79 7631 0\n\n" +
 		"deliver " + hexed(fired) + " 9\nignored Seen\n\n" +
-		"deliver " + hexed(query.Packet) + " 9\nquery\nsent " + hexed(query.Packet) + "\nsent " + hexed(outcomes[2].Received.Ack) + "\nhanded 0 1 7 6c6f6164 -\n\n" +
+		"deliver " + hexed(query.Packet) + " 9\nquery\nsent " + hexed(query.Packet) + "\nsent " + hexed(outcomes[2].Received.Ack) +
+		"\nhanded 0 1 7 6c6f6164 -\n\n" +
 		"deliver - 9\nrefused Wire Empty\n\ndeliver 0381a44e616d65a1 9\nrefused Wire Truncated 7\n\ndeliver 09 9\nforeign 9\n\n" +
 		"respond 0 10 31\nreplied\nsent " + hexed(reply) + "\n\nrespond 0 10 -\nrefused NoQuery\n\n"
 	if found := readRecord(t, filepath.Join(folder, "b.record")); found != want {
@@ -163,7 +167,10 @@ func TestForgottenQueries(t *testing.T) {
 			t.Error(number, err)
 		}
 	}
-	want := fmt.Sprintf("respond 0 6 -\nreplied\nsent %x\n\nclose 16\nclosed 2\n\nrespond 0 16 -\nrefused NoQuery\n\nrespond 1 16 -\nrefused PastDeadline\n\n", reply)
+	want := fmt.Sprintf(
+		"respond 0 6 -\nreplied\nsent %x\n\nclose 16\nclosed 2\n\nrespond 0 16 -\nrefused NoQuery\n\nrespond 1 16 -\nrefused PastDeadline\n\n",
+		reply,
+	)
 	if found := readRecord(t, filepath.Join(folder, "a.record")); !strings.HasSuffix(found, want) {
 		t.Errorf("%s\nand not\n%s", found, want)
 	}
@@ -202,7 +209,8 @@ func TestStatesClocksAndLives(t *testing.T) {
 	if found := readRecord(t, filepath.Join(folder, "b.record")); found != want {
 		t.Errorf("%s\nand not\n%s", found, want)
 	}
-	if found := readRecord(t, filepath.Join(folder, "a.record")); !strings.Contains(found, fmt.Sprintf("state\nstate\nsent %x\n\n", state)) {
+	want = fmt.Sprintf("state\nstate\nsent %x\n\n", state)
+	if found := readRecord(t, filepath.Join(folder, "a.record")); !strings.Contains(found, want) {
 		t.Error(found)
 	}
 }
@@ -225,7 +233,8 @@ func TestRotation(t *testing.T) {
 		text := readRecord(t, name)
 		var first uint64
 		head := "# kitchenrue-agent record 2\n# goes on\nopen 61 512 512 512 1024 ignore 1024 "
-		if _, err := fmt.Sscanf(text[strings.Index(text, "opened"):], "opened 1 %d 1", &first); err != nil || !strings.HasPrefix(text, head) {
+		if _, err := fmt.Sscanf(text[strings.Index(text, "opened"):], "opened 1 %d 1", &first); err != nil ||
+			!strings.HasPrefix(text, head) {
 			t.Fatalf("%s: %v %.200s", name, err, text)
 		}
 		if number < KeptFiles && first != last+1 {
@@ -254,8 +263,10 @@ func TestUnusableRecords(t *testing.T) {
 	notARecord := filepath.Join(folder, "other")
 	testkit.Write(t, notARecord, "event-clock: 1\n")
 	for path, says := range map[string]string{
-		folder: "is a directory", filepath.Join(folder, "none", "none"): "no such file", filepath.Join(folder, "locked"): "another program has",
-		pipe: "is not a regular file", "/dev/null": "is not a regular file", notARecord: "is not a record", "/sys/none": "permission denied",
+		folder: "is a directory", filepath.Join(folder, "none", "none"): "no such file",
+		filepath.Join(folder, "locked"): "another program has",
+		pipe:                            "is not a regular file", "/dev/null": "is not a regular file", notARecord: "is not a record",
+		"/sys/none": "permission denied",
 	} {
 		if file, err := Open(path, 1); err == nil || !strings.Contains(err.Error(), says) {
 			t.Errorf("%s: %v %v", path, file, err)

@@ -53,7 +53,9 @@ func TestCommands(t *testing.T) {
 		t.Error(stats)
 	}
 	var place coordinateAnswer
-	for name, want := range map[string]coordinateAnswer{"alpha": {coordinate.Coordinate{Vec: []float64{1, 2}, Height: 3}, true}, "beta": {}} {
+	for name, want := range map[string]coordinateAnswer{
+		"alpha": {coordinate.Coordinate{Vec: []float64{1, 2}, Height: 3}, true}, "beta": {},
+	} {
 		p.expect(p.request("get-coordinate", coordinateBody{name}), "")
 		place = coordinateAnswer{}
 		if p.read(&place); !reflect.DeepEqual(place, want) {
@@ -77,7 +79,10 @@ func TestMembers(t *testing.T) {
 	p.expect(p.request("members"), "")
 	p.read(&all)
 	want := []member{
-		{Name: "alpha", Addr: []byte{127, 0, 0, 1}, Port: 7946, Tags: map[string]string{"role": "web"}, Status: "alive", ProtocolMin: 1, DelegateCur: 5},
+		{
+			Name: "alpha", Addr: []byte{127, 0, 0, 1}, Port: 7946, Tags: map[string]string{"role": "web"}, Status: "alive", ProtocolMin: 1,
+			DelegateCur: 5,
+		},
 		{Name: "beta", Addr: append(make([]byte, 15), 1), Tags: map[string]string{}, Status: "failed"},
 	}
 	if !reflect.DeepEqual(all.Members, want) {
@@ -179,8 +184,8 @@ func TestQueries(t *testing.T) {
 	}
 }
 
-// Nothing follows the last record of a query, even if answers arrive at its deadline, and each record before it names its sender. Serf's own
-// client ends with a panic if it closes while it handles a record.
+// Nothing follows the last record of a query, even if answers arrive at its deadline, and each record before it names its
+// sender. Serf's own client ends with a panic if it closes while it handles a record.
 func TestNothingFollowsLastRecord(t *testing.T) {
 	s, f, _ := startServer(t, "")
 	p := dial(t, s).handshake()

@@ -46,7 +46,10 @@ func (f *fakeBackend) Fire(name string, payload []byte, _ bool) error {
 
 func (f *fakeBackend) Members() []serf.Member {
 	return append([]serf.Member{
-		{Name: "alpha", Addr: net.IPv4(127, 0, 0, 1), Port: 7946, Tags: map[string]string{"role": "web"}, Status: serf.StatusAlive, ProtocolMin: 1, DelegateCur: 5},
+		{
+			Name: "alpha", Addr: net.IPv4(127, 0, 0, 1), Port: 7946, Tags: map[string]string{"role": "web"}, Status: serf.StatusAlive,
+			ProtocolMin: 1, DelegateCur: 5,
+		},
 		{Name: "beta", Addr: net.ParseIP("::1"), Status: serf.StatusFailed},
 	}, f.moreMembers...)
 }

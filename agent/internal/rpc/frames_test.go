@@ -129,7 +129,8 @@ func TestEventToManyStreams(t *testing.T) {
 				p.read(&header)
 				p.read(&user)
 				found[header.Seq] = true
-				if wanted := (userEvent{"user", number, "deploy", []byte("v1"), false}); header.Error != "" || !reflect.DeepEqual(user, wanted) {
+				if wanted := (userEvent{"user", number, "deploy", []byte("v1"), false}); header.Error != "" ||
+					!reflect.DeepEqual(user, wanted) {
 					t.Fatal(header, user)
 				}
 			}
@@ -156,7 +157,8 @@ func TestBytesAreBin(t *testing.T) {
 	}
 	for _, payload := range []string{"\xa2v1", "\xc4\x02v1"} {
 		var body eventBody
-		if err := newReader(strings.NewReader("\x82\xa4Name\xa1x\xa7Payload"+payload)).decode(maxBody, &body); err != nil || body.Name != "x" || string(body.Payload) != "v1" {
+		if err := newReader(strings.NewReader("\x82\xa4Name\xa1x\xa7Payload"+payload)).decode(maxBody, &body); err != nil ||
+			body.Name != "x" || string(body.Payload) != "v1" {
 			t.Errorf("%q: %+v %v", payload, body, err)
 		}
 	}

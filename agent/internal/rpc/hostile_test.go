@@ -47,7 +47,10 @@ func TestTokens(t *testing.T) {
 		p.expectClosed()
 	}
 	p := dial(t, s)
-	p.write(requestHeader{"auth", 1}, authBody{"sesame"}, requestHeader{"handshake", 2}, handshakeBody{1}, requestHeader{"event", 3}, eventBody{Name: "x"})
+	p.write(
+		requestHeader{"auth", 1}, authBody{"sesame"}, requestHeader{"handshake", 2}, handshakeBody{1}, requestHeader{"event", 3},
+		eventBody{Name: "x"},
+	)
 	p.expect(1, "Handshake required")
 	p.expectClosed()
 	testkit.Eventually(t, "no client is connected", func() bool { return countConnected(s) == 0 })
@@ -189,7 +192,9 @@ func TestTooManyStreams(t *testing.T) {
 	for i := 0; i < maxStreams; i++ {
 		p.expect(p.request("stream", streamBody{"query"}), "")
 	}
-	for command, body := range map[string]interface{}{"stream": streamBody{"*"}, "monitor": monitorBody{"err"}, "query": queryBody{Name: "x"}} {
+	for command, body := range map[string]interface{}{
+		"stream": streamBody{"*"}, "monitor": monitorBody{"err"}, "query": queryBody{Name: "x"},
+	} {
 		p.expect(p.request(command, body), errTooManyStreams.Error())
 	}
 	if len(f.calls) != 0 {
@@ -281,7 +286,8 @@ func TestReader(t *testing.T) {
 		bytes string
 		err   error
 	}{
-		{"\xc0", nil}, {"\x81\xa1x\x01", nil}, {"\xcf12345678", nil}, {"\xa1x", nil}, {"\xc6\x00\x00\x00\x01x", nil}, {"\xdd\x00\x00\x00\x01\x01", nil},
+		{"\xc0", nil}, {"\x81\xa1x\x01", nil}, {"\xcf12345678", nil}, {"\xa1x", nil}, {"\xc6\x00\x00\x00\x01x", nil},
+		{"\xdd\x00\x00\x00\x01\x01", nil},
 		{"", io.EOF}, {"\xa2x", io.ErrUnexpectedEOF}, {"\x92\x01", io.EOF}, {"\xcf1234", io.ErrUnexpectedEOF},
 		{"\xda\xff\xff", msgpack.ErrLong}, {"\xdd\xff\xff\xff\xff", msgpack.ErrLong}, {"\xdf\xff\xff\xff\xff", msgpack.ErrLong},
 		{strings.Repeat("\x91", 8) + "\x01", nil}, {strings.Repeat("\x91", 9) + "\x01", msgpack.ErrDeep},

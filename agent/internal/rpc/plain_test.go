@@ -29,7 +29,9 @@ func TestUsualRequestsArePlain(t *testing.T) {
 	if in := (msgpack.Reader{Data: []byte(plainEncoding(t, want))}); !header.decodePlain(&in) || header != want {
 		t.Errorf("%+v", header)
 	}
-	for _, want := range []eventBody{{"deploy", []byte("v1"), true}, {strings.Repeat("n", 40), bytes.Repeat([]byte("p"), 300), false}, {"empty", nil, true}} {
+	for _, want := range []eventBody{
+		{"deploy", []byte("v1"), true}, {strings.Repeat("n", 40), bytes.Repeat([]byte("p"), 300), false}, {"empty", nil, true},
+	} {
 		for _, data := range []string{plainEncoding(t, want), string(mustEncode(t, want))} {
 			var body eventBody
 			in := msgpack.Reader{Data: []byte(data)}
@@ -65,11 +67,14 @@ func checkPlain(t *testing.T, value string, plain, want plainDecoder) (isPlain b
 // Whatever a client sends, a request has the content that go-msgpack finds in it.
 func TestPlainRequestsAreThoseOfMsgpack(t *testing.T) {
 	names := []string{
-		"\xa7Command", "\xa3Seq", "\xa4Name", "\xa7Payload", "\xa8Coalesce", "\xd9\x04Name", "\xda\x00\x03Seq", "\xc4\x04Name", "\xa4name", "\xa5Other", "\x01", "\xc0",
+		"\xa7Command", "\xa3Seq", "\xa4Name", "\xa7Payload", "\xa8Coalesce", "\xd9\x04Name", "\xda\x00\x03Seq", "\xc4\x04Name", "\xa4name",
+		"\xa5Other", "\x01", "\xc0",
 	}
 	values := []string{
-		"\xa5event", "\xd9\x01e", "\xda\x00\x02ab", "\xdb\x00\x00\x00\x01a", "\xa0", "\xc4\x02v1", "\xc5\x00\x01v", "\xc4\x00", "\xc0", "\xc2", "\xc3", "\x00", "\x07", "\xcc\xff",
-		"\xcd\x01\x00", "\xce\x00\x01\x00\x00", "\xcf\xff\xff\xff\xff\xff\xff\xff\xff", "\xd0\x7f", "\xd1\x01\x00", "\xd3\x00\x00\x00\x00\x00\x00\x00\x07", "\xff", "\xd0\x80",
+		"\xa5event", "\xd9\x01e", "\xda\x00\x02ab", "\xdb\x00\x00\x00\x01a", "\xa0", "\xc4\x02v1", "\xc5\x00\x01v", "\xc4\x00", "\xc0",
+		"\xc2", "\xc3", "\x00", "\x07", "\xcc\xff",
+		"\xcd\x01\x00", "\xce\x00\x01\x00\x00", "\xcf\xff\xff\xff\xff\xff\xff\xff\xff", "\xd0\x7f", "\xd1\x01\x00",
+		"\xd3\x00\x00\x00\x00\x00\x00\x00\x07", "\xff", "\xd0\x80",
 		"\xcb\x3f\xf0\x00\x00\x00\x00\x00\x00", "\x90", "\x80", "\x91\x01", "\xc1", "\xa3ab",
 	}
 	random := rand.New(rand.NewSource(1))

@@ -143,7 +143,9 @@ func TestNumbersOfKeyAnswers(t *testing.T) {
 	answered := make(chan error, 1)
 	go func() {
 		answered <- c.answerKeys(9, func() (*serf.KeyResponse, error) {
-			return &serf.KeyResponse{NumNodes: 5, NumResp: 3, NumErr: 1, Messages: map[string]string{"b": "no"}, Keys: map[string]int{"k": 2}}, nil
+			return &serf.KeyResponse{
+				NumNodes: 5, NumResp: 3, NumErr: 1, Messages: map[string]string{"b": "no"}, Keys: map[string]int{"k": 2},
+			}, nil
 		})
 	}()
 	var found keyAnswer

@@ -96,7 +96,9 @@ func Print(out io.Writer, nodes []*Node, filter Filter) error {
 	}
 	write(header...)
 	for _, row := range rowsOf(nodes, filter) {
-		words := []string{strconv.FormatUint(uint64(row.event.LTime), 10), quoteIfNeeded(row.event.Name), quoteIfNeeded(string(row.event.Payload))}
+		words := []string{
+			strconv.FormatUint(uint64(row.event.LTime), 10), quoteIfNeeded(row.event.Name), quoteIfNeeded(string(row.event.Payload)),
+		}
 		for _, outcome := range row.outcomes {
 			words = append(words, outcome.stateText())
 		}

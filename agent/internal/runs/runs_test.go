@@ -60,8 +60,10 @@ func TestOneNode(t *testing.T) {
 	text := began0 + "#event 9 6c617374 78\n#event 1 6f6b \n#begun 1 6f6b \n#done 1 6f6b \n#ran 1 6f6b  deploy=0 notify=3\n" +
 		"#event 2 6e6f6e65 0a1b5b\n#done 2 6e6f6e65 0a1b5b\n" +
 		"#event 3 637574 2220\n#ran 3 637574 2220 deploy=cut-off rerun:deploy=signal-9\n#done 3 637574 2220\n" +
-		"#event 4 63 61\n#ran 4 63 61 =cut-off\n#done 4 63 61\n#event 5 72 62\n#begun 5 72 62\n#process 5 72 62 deploy " + ownProcess(t) + "\n" +
-		"#event 6 72 62\n#begun 6 72 62\n#process 6 72 62 deploy " + other + "\n#event 7 72 62\n#begun 7 72 62\n#begun 7 72 62\n#process 7 72 62 unfinished:deploy 1 2 another-boot\n" +
+		"#event 4 63 61\n#ran 4 63 61 =cut-off\n#done 4 63 61\n#event 5 72 62\n#begun 5 72 62\n#process 5 72 62 deploy " + ownProcess(t) +
+		"\n" +
+		"#event 6 72 62\n#begun 6 72 62\n#process 6 72 62 deploy " + other +
+		"\n#event 7 72 62\n#begun 7 72 62\n#begun 7 72 62\n#process 7 72 62 unfinished:deploy 1 2 another-boot\n" +
 		"#event 8 72 62\n#begun 8 72 62\n#begun 8 72 62\n"
 	nodes := readNodes(t, [2]string{"", text})
 	pid := fmt.Sprint(os.Getpid())
@@ -92,7 +94,9 @@ func TestSeveralNodes(t *testing.T) {
 		return fmt.Sprintf("#event %d 6465706c6f79 %x\n#begun %d 6465706c6f79 %x\n", time, payload, time, payload)
 	}
 	ranLines := func(time int, payload, status string) string {
-		return event(time, payload) + fmt.Sprintf("#done %d 6465706c6f79 %x\n#ran %d 6465706c6f79 %x deploy=%s\n", time, payload, time, payload, status)
+		return event(time, payload) + fmt.Sprintf(
+			"#done %d 6465706c6f79 %x\n#ran %d 6465706c6f79 %x deploy=%s\n", time, payload, time, payload, status,
+		)
 	}
 	nodes := readNodes(t,
 		[2]string{"web1", began0 + ranLines(1, "v1", "0") + ranLines(2, "v2", "0") + ranLines(3, "v3", "0") + ranLines(3, "w3", "0")},
@@ -102,22 +106,30 @@ func TestSeveralNodes(t *testing.T) {
 	)
 	head := `TIME|NAME|PAYLOAD|web1|web2|web3|web4|"an\nodd"`
 	lines := []string{
-		"1|deploy|v1|exit 0|never arrived|not kept|not kept|never arrived", "2|deploy|v2|exit 0|cut off|never arrived|never arrived|unknown",
+		"1|deploy|v1|exit 0|never arrived|not kept|not kept|never arrived",
+		"2|deploy|v2|exit 0|cut off|never arrived|never arrived|unknown",
 		"2|deploy|w2|never arrived|exit 0|never arrived|never arrived|never arrived",
-		"3|deploy|v3|exit 0|exit 7|waiting|never arrived|never arrived", "3|deploy|w3|exit 0|exit 0|never arrived|never arrived|never arrived",
+		"3|deploy|v3|exit 0|exit 7|waiting|never arrived|never arrived",
+		"3|deploy|w3|exit 0|exit 0|never arrived|never arrived|never arrived",
 		"4|deploy|v4|never arrived|never arrived|waiting|never arrived|never arrived",
 	}
 	checkPrinted(t, nodes, Filter{}, append([]string{head}, lines...)...)
 	payload := "v2"
 	checkPrinted(t, nodes, Filter{Payload: &payload}, head, lines[1])
-	checkPrinted(t, nodes[:2], Filter{Unfinished: true}, "TIME|NAME|PAYLOAD|web1|web2", "1|deploy|v1|exit 0|never arrived", "2|deploy|v2|exit 0|cut off", "2|deploy|w2|never arrived|exit 0")
+	checkPrinted(
+		t, nodes[:2], Filter{Unfinished: true}, "TIME|NAME|PAYLOAD|web1|web2", "1|deploy|v1|exit 0|never arrived",
+		"2|deploy|v2|exit 0|cut off", "2|deploy|w2|never arrived|exit 0",
+	)
 	checkPrinted(t, nodes[:1], Filter{Unfinished: true}, "TIME|NAME|PAYLOAD|web1")
 }
 
 // As JSON, each event at each node is an object.
 func TestJSON(t *testing.T) {
 	nodes := readNodes(t,
-		[2]string{"web1", began0 + "#event 1 3c62 ff\n#ran 1 3c62 ff deploy=0 =cut-off\n#done 1 3c62 ff\n#event 2 62 \n#begun 2 62 \n#begun 2 62 \n#process 2 62  x 7 8 b\n"},
+		[2]string{
+			"web1",
+			began0 + "#event 1 3c62 ff\n#ran 1 3c62 ff deploy=0 =cut-off\n#done 1 3c62 ff\n#event 2 62 \n#begun 2 62 \n#begun 2 62 \n#process 2 62  x 7 8 b\n",
+		},
 		[2]string{"web2", began0 + "#event 1 3c62 ff\n"},
 	)
 	var out bytes.Buffer

@@ -120,7 +120,9 @@ func runStarved(third *serfagent.Agent, eventPackets [][]byte, loadPacket []byte
 // runAll runs bursts with calls of each kind, refused ones too, on the receiver, and then on the sender.
 func runAll(sender, receiver *serfagent.Agent, eventPackets [][]byte, loadPacket, state []byte) {
 	var burst serfagent.Burst
-	for _, packet := range [][]byte{eventPackets[0], nil, eventPackets[1], eventPackets[0], []byte("\x03\x81\xa5LTim"), loadPacket, {0}, state} {
+	for _, packet := range [][]byte{
+		eventPackets[0], nil, eventPackets[1], eventPackets[0], []byte("\x03\x81\xa5LTim"), loadPacket, {0}, state,
+	} {
 		burst.Receive(5, packet, false)
 	}
 	burst.Fire([]byte("own"), nil, false)

@@ -46,7 +46,8 @@ const memoryPort = 7946
 // add adds a transport at 10.0.0.last to the network.
 func (n *memoryNet) add(last byte) *memoryTransport {
 	m := &memoryTransport{
-		net: n, ip: net.IP{10, 0, 0, last}, packets: make(chan *memberlist.Packet), streams: make(chan net.Conn), closed: make(chan struct{}),
+		net: n, ip: net.IP{10, 0, 0, last}, packets: make(chan *memberlist.Packet), streams: make(chan net.Conn),
+		closed: make(chan struct{}),
 	}
 	n.mu.Lock()
 	defer n.mu.Unlock()
@@ -174,7 +175,8 @@ func TestAround(t *testing.T) {
 		for i, packet := range honestPackets() {
 			packet = c.seal(packet)
 			inner.receive(packet, from)
-			if got := nextPacket(g, time.Minute); got == nil || !bytes.Equal(got.Buf, packet) || got.From != from || got.Timestamp.IsZero() {
+			if got := nextPacket(g, time.Minute); got == nil || !bytes.Equal(got.Buf, packet) || got.From != from ||
+				got.Timestamp.IsZero() {
 				t.Fatalf("honest packet %d: %v", i, got)
 			}
 		}
@@ -392,7 +394,10 @@ func TestSettingsAround(t *testing.T) {
 	for name, test := range map[string]struct {
 		inner    memberlist.Transport
 		settings Settings
-	}{"no transport": {nil, Settings{}}, "below 0": {inner, Settings{Streams: -1}}, "a small PacketBytes": {inner, Settings{PacketBytes: 1000}}} {
+	}{
+		"no transport": {nil, Settings{}}, "below 0": {inner, Settings{Streams: -1}},
+		"a small PacketBytes": {inner, Settings{PacketBytes: 1000}},
+	} {
 		if _, err := Around(test.inner, testConfig("child", false), test.settings); err == nil {
 			t.Errorf("%s: accepted", name)
 		}

@@ -256,7 +256,9 @@ func TestAcks(t *testing.T) {
 		g := testGuard(t, isKeyed, Settings{})
 		to := fmt.Sprint("127.0.0.1:", g.Port())
 		out := message(msgPing, withChanges(ping, map[string]any{"SeqNo": 9}))
-		for i, packet := range [][]byte{out, compound(out, []byte{msgUser}), compressed(compound(out, out)), withChecksum(compressed(out))} {
+		for i, packet := range [][]byte{
+			out, compound(out, []byte{msgUser}), compressed(compound(out, out)), withChecksum(compressed(out)),
+		} {
 			ack := c.seal(message(msgAck, map[string]any{"SeqNo": 9, "Payload": nil}))
 			if inspectPacket(g, ack) != nil {
 				t.Errorf("%d: an early ack passes", i)
@@ -308,14 +310,17 @@ func TestKeys(t *testing.T) {
 	defer g.Shutdown()
 	other := []byte("another sixteen!")
 	passes := func() string {
-		return fmt.Sprint(inspectPacket(g, sealWith(testKey, alive("a", nil))) != nil, inspectPacket(g, sealWith(other, alive("a", nil))) != nil)
+		return fmt.Sprint(
+			inspectPacket(g, sealWith(testKey, alive("a", nil))) != nil, inspectPacket(g, sealWith(other, alive("a", nil))) != nil,
+		)
 	}
 	for i, test := range []struct {
 		change func() error
 		want   string
 	}{
 		{func() error { return nil }, "true false"}, {func() error { return c.Keyring.AddKey(other) }, "true true"},
-		{func() error { return c.Keyring.UseKey(other) }, "true true"}, {func() error { return c.Keyring.RemoveKey(testKey) }, "false true"},
+		{func() error { return c.Keyring.UseKey(other) }, "true true"},
+		{func() error { return c.Keyring.RemoveKey(testKey) }, "false true"},
 	} {
 		if err := test.change(); err != nil || passes() != test.want {
 			t.Errorf("%d: %v %s", i, err, passes())
@@ -337,7 +342,10 @@ func TestUnverifiedGossip(t *testing.T) {
 	for i, test := range []struct {
 		packet []byte
 		passes bool
-	}{{alive("a", nil), true}, {message(msgPing, ping), true}, {versionsAlive(1), false}, {sealWith(testKey, alive("b", nil)), true}, {old, false}} {
+	}{
+		{alive("a", nil), true}, {message(msgPing, ping), true}, {versionsAlive(1), false}, {sealWith(testKey, alive("b", nil)), true},
+		{old, false},
+	} {
 		if passed := inspectPacket(g, test.packet) != nil; passed != test.passes {
 			t.Errorf("packet %d: passes: %v", i, passed)
 		}
@@ -348,7 +356,9 @@ func TestUnverifiedGossip(t *testing.T) {
 }
 
 func TestSettings(t *testing.T) {
-	for name, settings := range map[string]Settings{"below 0": {Streams: -1}, "AllBytes below StreamBytes": {AllBytes: 1000}, "a small PacketBytes": {PacketBytes: 1000}} {
+	for name, settings := range map[string]Settings{
+		"below 0": {Streams: -1}, "AllBytes below StreamBytes": {AllBytes: 1000}, "a small PacketBytes": {PacketBytes: 1000},
+	} {
 		if g, err := New(testConfig("child", false), settings); err == nil {
 			t.Errorf("%s: accepted", name)
 			g.Shutdown()

@@ -99,7 +99,10 @@ func packetCases() []testCase {
 		{"a multicast address", alive("a", map[string]any{"Addr": []byte{224, 0, 0, 1}}), Address},
 		{"a broadcast address", alive("a", map[string]any{"Addr": []byte{255, 255, 255, 255}}), Address},
 		{"a broadcast address in 16 bytes", alive("a", map[string]any{"Addr": []byte(net.IPv4bcast.To16())}), Address},
-		{"a ping from a multicast address", message(msgPing, withChanges(ping, map[string]any{"SourceAddr": []byte{239, 1, 1, 1}})), Address},
+		{
+			"a ping from a multicast address", message(msgPing, withChanges(ping, map[string]any{"SourceAddr": []byte{239, 1, 1, 1}})),
+			Address,
+		},
 		{"an indirect ping of no address", message(msgIndirectPing, withChanges(ping, map[string]any{"Port": 9})), Address},
 		{"an unknown type", []byte{200, 1}, Kind},
 		{"a push/pull in a packet", pushPull(nil, 0), Kind},

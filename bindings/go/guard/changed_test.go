@@ -26,7 +26,8 @@ func envNumber(variable string, otherwise int) int {
 // fragments are the bytes that mutate inserts into messages.
 var fragments = [][]byte{
 	{0}, {0x7f}, {0x80}, {0x8f}, {0x90}, {0x9f, 0x9f}, {0xa0}, {0xbf}, {0xc0}, {0xc1}, {0xc2}, {0xc4, 0xff}, {0xc5, 0xff, 0xff},
-	{0xc6, 0xff, 0xff, 0xff, 0xff}, {0xc9, 0x7f, 0xff, 0xff, 0xff, 1}, {0xcb}, {0xcc, 0xff}, {0xcd, 0xff, 0xff}, {0xce, 0xff, 0xff, 0xff, 0xff},
+	{0xc6, 0xff, 0xff, 0xff, 0xff}, {0xc9, 0x7f, 0xff, 0xff, 0xff, 1}, {0xcb}, {0xcc, 0xff}, {0xcd, 0xff, 0xff},
+	{0xce, 0xff, 0xff, 0xff, 0xff},
 	{0xcf, 0xff, 0xff, 0xff, 0xff, 0xff, 0xff, 0xff, 0xff}, {0xd0, 0x80}, {0xd3, 0xff, 0xff, 0xff, 0xff, 0xff, 0xff, 0xff, 0xff},
 	{0xd3, 0, 0, 1, 0, 0, 0, 0, 0}, {0xd8, 1}, {0xd9, 0xff}, {0xda, 0xff, 0xff}, {0xdb, 0x7f, 0xff, 0xff, 0xff}, {0xdc, 0xff, 0xff},
 	{0xdd, 0xff, 0xff, 0xff, 0xff}, {0xde, 0xff, 0xff}, {0xdf, 0xff, 0xff, 0xff, 0xff}, {0xe0}, {0xff}, {0xa3, 'V', 's', 'n', 0xa1, 1},
@@ -141,7 +142,10 @@ func TestChangedPackets(t *testing.T) {
 			}
 		}
 		c.mustJoin()
-		t.Logf("%s: %d of each type, %v, %d KiB at most, dropped: %v", name, count, time.Since(began).Round(time.Second), c.peakKiB(), c.drops())
+		t.Logf(
+			"%s: %d of each type, %v, %d KiB at most, dropped: %v", name, count, time.Since(began).Round(time.Second), c.peakKiB(),
+			c.drops(),
+		)
 	}
 }
 
@@ -169,8 +173,10 @@ func changedStreams() []generator {
 		return func(r *rand.Rand) []byte { return mutate(r, make(r)) }
 	}
 	return []generator{
-		{"push/pull", changed(states)}, {"user", changed(user)}, {"ping", changed(func(r *rand.Rand) []byte { return message(msgPing, ping) })},
-		{"compressed", compressedAndChanged}, {"ack", changed(func(r *rand.Rand) []byte { return message(msgAck, map[string]any{"SeqNo": 1, "Payload": nil}) })},
+		{"push/pull", changed(states)}, {"user", changed(user)},
+		{"ping", changed(func(r *rand.Rand) []byte { return message(msgPing, ping) })},
+		{"compressed", compressedAndChanged},
+		{"ack", changed(func(r *rand.Rand) []byte { return message(msgAck, map[string]any{"SeqNo": 1, "Payload": nil}) })},
 		{"error", changed(func(r *rand.Rand) []byte { return message(msgErr, map[string]any{"Error": "text"}) })},
 		{"a bad entry", func(r *rand.Rand) []byte {
 			bad := append(encode(node("a", nil)), mutate(r, encode(node("b", nil)))...)
@@ -201,7 +207,10 @@ func TestChangedStreams(t *testing.T) {
 			}
 		}
 		c.mustJoin()
-		t.Logf("%s: %d of each type, %v, %d KiB at most, dropped: %v", name, count, time.Since(began).Round(time.Second), c.peakKiB(), c.drops())
+		t.Logf(
+			"%s: %d of each type, %v, %d KiB at most, dropped: %v", name, count, time.Since(began).Round(time.Second), c.peakKiB(),
+			c.drops(),
+		)
 		c.changedAnswers(rand.New(rand.NewSource(seed)), count, sender)
 	}
 }
@@ -253,7 +262,10 @@ func TestAllAtOnce(t *testing.T) {
 			c.Fatal("no answer")
 		}
 		c.mustJoin()
-		t.Logf("%s: %d packets, %d streams, %d idle ones, %d KiB at most, dropped: %v", name, counts[0], counts[1], counts[2], c.peakKiB(), c.drops())
+		t.Logf(
+			"%s: %d packets, %d streams, %d idle ones, %d KiB at most, dropped: %v", name, counts[0], counts[1], counts[2], c.peakKiB(),
+			c.drops(),
+		)
 	}
 }
 

@@ -106,7 +106,9 @@ func inspectPacket(g *Transport, packet []byte) []byte { return newInspector(g.c
 // honestPackets returns packets that memberlist itself sends.
 func honestPackets() [][]byte {
 	from := func(name string) map[string]any { return map[string]any{"Incarnation": 3, "Node": "a", "From": name} }
-	big := compound(message(msgPing, ping), alive("one", nil), alive("two", nil), message(msgSuspect, from("b")), message(msgDead, from("a")),
+	big := compound(message(msgPing, ping), alive("one", nil), alive("two", nil), message(msgSuspect, from("b")), message(
+		msgDead, from("a"),
+	),
 		append([]byte{msgUser}, zeros(700)...))
 	indirect := withChanges(ping, map[string]any{"Target": []byte{127, 0, 0, 1}, "Port": 9, "Nack": true})
 	return [][]byte{
@@ -203,7 +205,8 @@ func TestPoison(t *testing.T) {
 	for _, isKeyed := range []bool{false, true} {
 		stock := startChild(t, childOptions{Name: "stock", IsKeyed: isKeyed, IsAlone: true, IsHonest: true})
 		for _, packet := range [][]byte{
-			alive("poison1", map[string]any{"Vsn": []byte{5, 5, 5, 2, 5, 4}}), alive("poison2", map[string]any{"Vsn": []byte{1, 1, 1, 2, 5, 4}}),
+			alive("poison1", map[string]any{"Vsn": []byte{5, 5, 5, 2, 5, 4}}),
+			alive("poison2", map[string]any{"Vsn": []byte{1, 1, 1, 2, 5, 4}}),
 			alive("poison3", map[string]any{"Meta": zeros(600)}),
 		} {
 			stock.udp.Write(stock.seal(packet))

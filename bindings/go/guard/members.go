@@ -46,9 +46,18 @@ type place struct {
 
 func newMembers(s *Settings, c *memberlist.Config) *members {
 	m := &members{
-		ownName: c.Name, maxMembers: s.Members, perAddress: s.NamesPerAddress, known: s.Known, makeRoom: s.MakeRoom, probeInterval: c.ProbeInterval,
-		deadTime: c.GossipToTheDeadTime, alive: map[string]netip.AddrPort{}, left: map[string]place{}, admitted: map[string]place{},
-		atIP: map[netip.Addr]int{}, atAddr: map[netip.AddrPort]int{},
+		ownName:       c.Name,
+		maxMembers:    s.Members,
+		perAddress:    s.NamesPerAddress,
+		known:         s.Known,
+		makeRoom:      s.MakeRoom,
+		probeInterval: c.ProbeInterval,
+		deadTime:      c.GossipToTheDeadTime,
+		alive:         map[string]netip.AddrPort{},
+		left:          map[string]place{},
+		admitted:      map[string]place{},
+		atIP:          map[netip.Addr]int{},
+		atAddr:        map[netip.AddrPort]int{},
 	}
 	m.nextDelegate, c.Events = c.Events, m
 	if m.known == nil {

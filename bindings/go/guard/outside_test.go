@@ -146,7 +146,9 @@ func floodsOf(name string) []flood {
 		return stranger(r)
 	}
 	intent := func(r *rand.Rand) []byte {
-		return serfMessage([]byte{leaveIntent, joinIntent}[r.Intn(2)], map[string]any{"LTime": someTime(r), "Node": someone(r), "Prune": r.Intn(2) == 0})
+		return serfMessage(
+			[]byte{leaveIntent, joinIntent}[r.Intn(2)], map[string]any{"LTime": someTime(r), "Node": someone(r), "Prune": r.Intn(2) == 0},
+		)
 	}
 	event := func(r *rand.Rand) []byte {
 		return serfMessage(eventOfSerf, map[string]any{"LTime": someTime(r), "Name": "flood", "Payload": zeros(r.Intn(500)), "CC": false})
@@ -160,7 +162,9 @@ func floodsOf(name string) []flood {
 	return []flood{
 		{generator{"members", func(r *rand.Rand) []byte { return alive(stranger(r), map[string]any{"Incarnation": r.Intn(100)}) }}, 20_000},
 		{generator{"deaths", func(r *rand.Rand) []byte {
-			return message([]byte{msgSuspect, msgDead}[r.Intn(2)], map[string]any{"Incarnation": r.Intn(100), "Node": someone(r), "From": stranger(r)})
+			return message(
+				[]byte{msgSuspect, msgDead}[r.Intn(2)], map[string]any{"Incarnation": r.Intn(100), "Node": someone(r), "From": stranger(r)},
+			)
 		}}, 2_000},
 		{generator{"intents", intent}, 60_000}, {generator{"events", event}, 20_000}, {generator{"queries", query}, 5_000},
 		{generator{"changed messages of Serf's", func(r *rand.Rand) []byte {
@@ -183,7 +187,8 @@ func stateFlood(r *rand.Rand) []byte {
 		slots = append(slots, map[string]any{"LTime": someTime(r), "Events": texts})
 	}
 	state := append([]byte{stateOfSerf}, encode(map[string]any{
-		"LTime": someTime(r), "StatusLTimes": times, "LeftMembers": []string{}, "EventLTime": someTime(r), "Events": slots, "QueryLTime": someTime(r),
+		"LTime": someTime(r), "StatusLTimes": times, "LeftMembers": []string{}, "EventLTime": someTime(r), "Events": slots,
+		"QueryLTime": someTime(r),
 	})...)
 	if r.Intn(3) == 0 {
 		state = mutate(r, state)

@@ -31,7 +31,8 @@ func (s *stream) inspectPushPull(r *reader) []byte {
 	if r.failWith(r.readFields(s.schemas.byType[msgPushPull], &values)); r.Err != nil {
 		return nil
 	}
-	count, length, join := int(values[fieldPushPullNodes].number), int(values[fieldPushPullStateLen].number), values[fieldPushPullJoin].number
+	count, length := int(values[fieldPushPullNodes].number), int(values[fieldPushPullStateLen].number)
+	join := values[fieldPushPullJoin].number
 	keptFrom := r.At
 	found := entryResults{group: newGroup()}
 	for i := 0; i < count && r.Err == nil; i++ {

@@ -55,7 +55,8 @@ func TestCutPushPullStaysAJoin(t *testing.T) {
 	for _, test := range [][2][]byte{{whole, want}, {bytes.Replace(whole, isJoin, isNone, 1), bytes.Replace(want, isJoin, isNone, 1)}} {
 		g := testGuard(t, false, Settings{})
 		found := readStream(g, test[0], false)
-		if bytes.Contains(found, isJoin) != bytes.Contains(test[0], isJoin) || bytes.Contains(found, isNone) != bytes.Contains(test[0], isNone) {
+		if bytes.Contains(found, isJoin) != bytes.Contains(test[0], isJoin) ||
+			bytes.Contains(found, isNone) != bytes.Contains(test[0], isNone) {
 			t.Errorf("%q", found)
 		}
 		if bytes.Contains(found, []byte("bad")) || !bytes.Contains(found, []byte("good")) {

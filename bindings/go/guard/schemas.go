@@ -105,8 +105,9 @@ func newSchemas(s *Settings) *schemas {
 	textField := func(name string, min uint64) field { return field{name, kindText, min, maxName, Name} }
 	addressField := func(name string, min uint64) field { return field{name, kindAddress, min, 16, Address} }
 	flagField := func(name string) field { return field{name, kindFlag, 0, 0, Malformed} }
-	sequence, incarnation, port := numberField("SeqNo", maxUint32, Range), numberField("Incarnation", maxUint32, Range), numberField("Port", maxUint16, Range)
-	addr, meta, vsn := addressField("Addr", 4), bytesField("Meta", 0, maxMeta, Meta), bytesField("Vsn", versionBytes, versionBytes, Versions)
+	sequence, incarnation := numberField("SeqNo", maxUint32, Range), numberField("Incarnation", maxUint32, Range)
+	addr, port := addressField("Addr", 4), numberField("Port", maxUint16, Range)
+	meta, vsn := bytesField("Meta", 0, maxMeta, Meta), bytesField("Vsn", versionBytes, versionBytes, Versions)
 	source := schema{addressField("SourceAddr", 0), numberField("SourcePort", maxUint16, Range), textField("SourceNode", 0)}
 	suspect := schema{incarnation, textField("Node", 1), textField("From", 1)}
 	return &schemas{
@@ -119,9 +120,12 @@ func newSchemas(s *Settings) *schemas {
 			msgDead:         suspect,
 			msgAlive:        {incarnation, textField("Node", 1), addr, port, meta, vsn},
 			msgCompress:     {numberField("Algo", 0, Compression), bytesField("Buf", 1, s.StreamBytes, Compression)},
-			msgPushPull:     {numberField("Nodes", uint64(s.Nodes), Length), numberField("UserStateLen", uint64(s.StreamBytes), Length), flagField("Join")},
-			msgUser:         {numberField("UserMsgLen", uint64(s.UserBytes), Length)},
-			msgErr:          {{"Error", kindText, 0, maxErrorText, Length}},
+			msgPushPull: {
+				numberField("Nodes", uint64(s.Nodes), Length), numberField("UserStateLen", uint64(s.StreamBytes), Length),
+				flagField("Join"),
+			},
+			msgUser: {numberField("UserMsgLen", uint64(s.UserBytes), Length)},
+			msgErr:  {{"Error", kindText, 0, maxErrorText, Length}},
 		},
 		node: schema{textField("Name", 1), addr, port, meta, incarnation, vsn, numberField("State", nodeStates-1, Range)},
 	}

@@ -48,7 +48,12 @@ type carrier interface {
 
 func newTransport(shared *core, carrier carrier, log *log.Logger) *Transport {
 	t := &Transport{
-		core: shared, carrier: carrier, log: log, packets: make(chan *memberlist.Packet), conns: make(chan net.Conn), closed: make(chan struct{}),
+		core:    shared,
+		carrier: carrier,
+		log:     log,
+		packets: make(chan *memberlist.Packet),
+		conns:   make(chan net.Conn),
+		closed:  make(chan struct{}),
 	}
 	t.inspectors.New = func() any { return newInspector(shared) }
 	return t

@@ -23,7 +23,9 @@ func TestUnrequestedAcksAreIgnored(t *testing.T) {
 }
 
 func TestIsMajority(t *testing.T) {
-	for counts, want := range map[[2]int]bool{{0, 1}: false, {1, 1}: true, {1, 2}: false, {2, 2}: true, {1, 3}: false, {2, 3}: true, {2, 4}: false, {3, 4}: true} {
+	for counts, want := range map[[2]int]bool{
+		{0, 1}: false, {1, 1}: true, {1, 2}: false, {2, 2}: true, {1, 3}: false, {2, 3}: true, {2, 4}: false, {3, 4}: true,
+	} {
 		if isMajority(counts[0], counts[1]) != want {
 			t.Error(counts)
 		}
@@ -77,7 +79,10 @@ func TestRelaysAreBounded(t *testing.T) {
 		port   uint16
 		source string
 		want   int
-	}{{0, 20000, "m0", 0}, {1, 20000, "m0", 1}, {7, 20000, "m0", 7}, {20, 20000, "m0", maxRelays}, {21, 20000, "m0", 0}, {255, 20000, "m0", 0}, {5, 20001, "m0", 0}, {5, 20000, "x", 0}} {
+	}{
+		{0, 20000, "m0", 0}, {1, 20000, "m0", 1}, {7, 20000, "m0", 7}, {20, 20000, "m0", maxRelays}, {21, 20000, "m0", 0},
+		{255, 20000, "m0", 0}, {5, 20001, "m0", 0}, {5, 20000, "x", 0},
+	} {
 		query := &serfagent.PendingQuery{Source: []byte(test.source), Addr: addr, Port: test.port, RelayFactor: test.factor}
 		if relays := a.relays(query); len(relays) != test.want {
 			t.Error(test, len(relays))

@@ -152,7 +152,10 @@ func TestUnansweredQueriesAreForgotten(t *testing.T) {
 // An internal query for which there is no room is forgotten at once.
 func TestDroppedQueryIsForgotten(t *testing.T) {
 	f := &fakeAgent{}
-	node := &Serf{agent: f, log: log.New(io.Discard, "", 0), internalQueries: make(chan *serfagent.PendingQuery), queryNames: newNameCounter("queries")}
+	node := &Serf{
+		agent: f, log: log.New(io.Discard, "", 0), internalQueries: make(chan *serfagent.PendingQuery),
+		queryNames: newNameCounter("queries"),
+	}
 	node.stageQuery(&serfagent.PendingQuery{Number: 9, Name: []byte(InternalQueryPrefix + "ping")}, nil)
 	if !reflect.DeepEqual(f.forgotten, []uint64{9}) {
 		t.Error(f.forgotten)
@@ -351,8 +354,8 @@ func TestFiredEventsAreQueuedForGossip(t *testing.T) {
 	}
 }
 
-// outstandingWait waits for the callers of the last flush if they usually fire again before another flush would end. If others were waiting as
-// well, all of them together are expected to take longer.
+// outstandingWait waits for the callers of the last flush if they usually fire again before another flush would end. If
+// others were waiting as well, all of them together are expected to take longer.
 func TestOutstandingWait(t *testing.T) {
 	const flush = time.Hour
 	f, reported := newFiringQueue(), []*firing{{done: make(chan struct{}, 99)}, {done: make(chan struct{}, 99)}}
@@ -361,8 +364,10 @@ func TestOutstandingWait(t *testing.T) {
 		others      int
 		isAwaited   bool
 	}{
-		{0, 0, true}, {0, 0, true}, {2 * flush, 0, true}, {2 * flush, 0, true}, {flush, 0, false}, {0, 0, false}, {flush / 4, 0, true}, {flush / 4, 0, true},
-		{flush / 2, 2, true}, {flush / 2, 2, true}, {flush / 2, 2, true}, {1 << 62, 2, true}, {flush, 200, false}, {0, 0, false}, {0, 200, true},
+		{0, 0, true}, {0, 0, true}, {2 * flush, 0, true}, {2 * flush, 0, true}, {flush, 0, false}, {0, 0, false}, {flush / 4, 0, true},
+		{flush / 4, 0, true},
+		{flush / 2, 2, true}, {flush / 2, 2, true}, {flush / 2, 2, true}, {1 << 62, 2, true}, {flush, 200, false}, {0, 0, false},
+		{0, 200, true},
 	} {
 		if f.outstandingWait() != 0 {
 			t.Error("no caller is outstanding, and it waits")

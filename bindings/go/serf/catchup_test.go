@@ -37,7 +37,10 @@ func TestMissedEventsAreFetched(t *testing.T) {
 			k.delegate().NotifyMsg(event(72, "new"))
 			eventually(t, "k has the new event", func() bool { return len(k.payloads("new")) == 1 })
 			if isKeeping {
-				eventually(t, "k fetches the events that it missed", func() bool { return len(k.payloads("one")) == 1 && len(k.payloads("two")) == 1 })
+				eventually(
+					t, "k fetches the events that it missed",
+					func() bool { return len(k.payloads("one")) == 1 && len(k.payloads("two")) == 1 },
+				)
 				return
 			}
 			time.Sleep(3 * minExchangeInterval)

@@ -80,7 +80,8 @@ func TestSerfsFilters(t *testing.T) {
 		t.Errorf("%q %v", withoutTags, err)
 	}
 	for _, other := range [][]byte{nil, {4}, unhex(t, plainPacket), unhex(t, eventPacket), packet[:20]} {
-		if unchanged := WithoutTagFilters(other); !bytes.Equal(unchanged, other) && !bytes.Equal(unchanged, bytes.Replace(other, []byte("Filters\xc0"), []byte("Filters\x90"), 1)) {
+		if unchanged := WithoutTagFilters(other); !bytes.Equal(unchanged, other) &&
+			!bytes.Equal(unchanged, bytes.Replace(other, []byte("Filters\xc0"), []byte("Filters\x90"), 1)) {
 			t.Errorf("%x", unchanged)
 		}
 	}
@@ -143,7 +144,10 @@ func TestRelays(t *testing.T) {
 	if written := encodeRelay(found); !bytes.Equal(written, packet) {
 		t.Errorf("%x", written)
 	}
-	for _, packet := range []string{"", "\x09", "\x09\x80", "\x09\x80x", "\x09\x81\xa8DestAddr\x81\xa2IP\xa3123x", "\x09\x81\xa8DestAddr\x82\xa2IP\xa41234\xa4Port\xce\x00\x01\x00\x00x", "\x09\x81\xa8DestAddr\x81\xa2IP\xa41234"} {
+	for _, packet := range []string{
+		"", "\x09", "\x09\x80", "\x09\x80x", "\x09\x81\xa8DestAddr\x81\xa2IP\xa3123x",
+		"\x09\x81\xa8DestAddr\x82\xa2IP\xa41234\xa4Port\xce\x00\x01\x00\x00x", "\x09\x81\xa8DestAddr\x81\xa2IP\xa41234",
+	} {
 		if found, err := decodeRelay([]byte(packet)); err == nil {
 			t.Errorf("%q: %+v", packet, found)
 		}
@@ -182,7 +186,10 @@ func TestSerfsKeyMessages(t *testing.T) {
 }
 
 func TestMemberResponse(t *testing.T) {
-	member := &Member{Name: "beta", Addr: net.IPv4(127, 0, 1, 2), Port: 7946, Status: StatusAlive, ProtocolMin: 1, ProtocolMax: 5, ProtocolCur: 2, DelegateMin: 2, DelegateMax: 5, DelegateCur: 5}
+	member := &Member{
+		Name: "beta", Addr: net.IPv4(127, 0, 1, 2), Port: 7946, Status: StatusAlive, ProtocolMin: 1, ProtocolMax: 5, ProtocolCur: 2,
+		DelegateMin: 2, DelegateMax: 5, DelegateCur: 5,
+	}
 	if written := encodeMember(member); !bytes.Equal(written, unhex(t, memberPacket)) {
 		t.Errorf("%x", written)
 	}
@@ -220,7 +227,10 @@ func TestReadTimes(t *testing.T) {
 	if latest := (clockTimes{5, 7, 6}).max(); latest != 7 {
 		t.Error(latest)
 	}
-	for _, packet := range []string{"", "\x03", "\x03\x81\xa5LTime\xff", "\x03\x81\xa5LTime\xa1x", "\x02\x81\xa6Events\xdd\xff\xff\xff\xff", "\x02\x81\xacStatusLTimes\x01"} {
+	for _, packet := range []string{
+		"", "\x03", "\x03\x81\xa5LTime\xff", "\x03\x81\xa5LTime\xa1x", "\x02\x81\xa6Events\xdd\xff\xff\xff\xff",
+		"\x02\x81\xacStatusLTimes\x01",
+	} {
 		if found, err := readTimes([]byte(packet)); err == nil {
 			t.Errorf("%q: %+v", packet, found)
 		}
@@ -229,10 +239,14 @@ func TestReadTimes(t *testing.T) {
 
 // Whatever the bytes are, no decoder reads beyond them or panics.
 func TestDamagedMessages(t *testing.T) {
-	for _, text := range []string{queryPacket, relayPacket, keyRequestPacket, keyResponsePacket, memberPacket, tagsMeta, eventPacket, statePacket, joinPacket} {
+	for _, text := range []string{
+		queryPacket, relayPacket, keyRequestPacket, keyResponsePacket, memberPacket, tagsMeta, eventPacket, statePacket, joinPacket,
+	} {
 		whole := unhex(t, text)
 		for i := range whole {
-			for _, value := range []byte{whole[i], 0x00, 0x7f, 0x80, 0x8f, 0x9f, 0xa0, 0xbf, 0xc0, 0xc1, 0xc6, 0xcf, 0xd3, 0xdb, 0xdd, 0xdf, 0xff} {
+			for _, value := range []byte{
+				whole[i], 0x00, 0x7f, 0x80, 0x8f, 0x9f, 0xa0, 0xbf, 0xc0, 0xc1, 0xc6, 0xcf, 0xd3, 0xdb, 0xdd, 0xdf, 0xff,
+			} {
 				damaged := append([]byte(nil), whole...)
 				damaged[i] = value
 				for _, packet := range [][]byte{damaged, damaged[:i]} {

@@ -211,13 +211,29 @@ func DefaultConfig() *Config {
 		panic(err)
 	}
 	return &Config{
-		NodeName: name, Tags: map[string]string{}, ProtocolVersion: 4, BroadcastTimeout: 5 * time.Second, LeavePropagateDelay: time.Second,
-		ReapInterval: 15 * time.Second, ReconnectInterval: 30 * time.Second, ReconnectTimeout: 24 * time.Hour,
-		TombstoneTimeout: 24 * time.Hour,
-		FlapTimeout:      time.Minute, QueueCheckInterval: 30 * time.Second, QueueDepthWarning: 128, MaxQueueDepth: 4096,
-		RecentIntentTimeout: 5 * time.Minute, EventBuffer: 512, QueryBuffer: 512, QueryTimeoutMult: 16, QueryResponseSizeLimit: defaultQueryLimit,
-		QuerySizeLimit: defaultQueryLimit, MemberlistConfig: memberlist.DefaultLANConfig(), LogOutput: os.Stderr, EnableNameConflictResolution: true,
-		UserEventSizeLimit: 512,
+		NodeName:                     name,
+		Tags:                         map[string]string{},
+		ProtocolVersion:              4,
+		BroadcastTimeout:             5 * time.Second,
+		LeavePropagateDelay:          time.Second,
+		ReapInterval:                 15 * time.Second,
+		ReconnectInterval:            30 * time.Second,
+		ReconnectTimeout:             24 * time.Hour,
+		TombstoneTimeout:             24 * time.Hour,
+		FlapTimeout:                  time.Minute,
+		QueueCheckInterval:           30 * time.Second,
+		QueueDepthWarning:            128,
+		MaxQueueDepth:                4096,
+		RecentIntentTimeout:          5 * time.Minute,
+		EventBuffer:                  512,
+		QueryBuffer:                  512,
+		QueryTimeoutMult:             16,
+		QueryResponseSizeLimit:       defaultQueryLimit,
+		QuerySizeLimit:               defaultQueryLimit,
+		MemberlistConfig:             memberlist.DefaultLANConfig(),
+		LogOutput:                    os.Stderr,
+		EnableNameConflictResolution: true,
+		UserEventSizeLimit:           512,
 	}
 }
 

@@ -25,7 +25,9 @@ type cutTransport struct {
 // newCutTransport returns a transport on loopback that isn't cut off yet.
 func newCutTransport(t *testing.T) *cutTransport {
 	t.Helper()
-	inner, err := memberlist.NewNetTransport(&memberlist.NetTransportConfig{BindAddrs: []string{"127.0.0.1"}, Logger: log.New(io.Discard, "", 0)})
+	inner, err := memberlist.NewNetTransport(
+		&memberlist.NetTransportConfig{BindAddrs: []string{"127.0.0.1"}, Logger: log.New(io.Discard, "", 0)},
+	)
 	must(t, err)
 	c := &cutTransport{NetTransport: inner, streams: make(chan net.Conn)}
 	stopped := make(chan struct{})

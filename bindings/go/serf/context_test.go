@@ -18,7 +18,8 @@ func TestFireContext(t *testing.T) {
 			t.Error(fired, err)
 		}
 	}
-	if _, err := a.FireContext(ctx, strings.Repeat("x", 600), nil, false); err == nil || !strings.Contains(err.Error(), "limit of 512 bytes") {
+	if _, err := a.FireContext(ctx, strings.Repeat("x", 600), nil, false); err == nil ||
+		!strings.Contains(err.Error(), "limit of 512 bytes") {
 		t.Error(err)
 	}
 	cancel()

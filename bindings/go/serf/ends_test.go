@@ -62,7 +62,9 @@ func TestNodeSurvivesOutOfMemory(t *testing.T) {
 		f.failures.Store(1)
 		a := startNode(t, "a", "", withAgent(f), withSnapshotFile(t, path), withLog(logs))
 		cause(t, a)
-		eventually(t, call+" runs out of memory", func() bool { return f.failures.Load() < 0 || f.failures.Load() == 0 && call != "CompactWith" })
+		eventually(
+			t, call+" runs out of memory", func() bool { return f.failures.Load() < 0 || f.failures.Load() == 0 && call != "CompactWith" },
+		)
 		a.delegate().NotifyMsg([]byte("\x03\x80"))
 		a.delegate().NotifyJoin(nodeB())
 		eventually(t, call+": an event is delivered", func() bool { return len(a.payloads("fake")) == 1 })
@@ -71,7 +73,8 @@ func TestNodeSurvivesOutOfMemory(t *testing.T) {
 			t.Error(call, err, a.Fault())
 		}
 		text := logs.String()
-		if call == "TakeAll" && !strings.Contains(text, "1 packets were not processed") || call == "Merge" && !strings.Contains(text, "a state was not processed") {
+		if call == "TakeAll" && !strings.Contains(text, "1 packets were not processed") ||
+			call == "Merge" && !strings.Contains(text, "a state was not processed") {
 			t.Error(call, text)
 		}
 		if merged := len(a.payloads("merged")); (merged == 1) != (call == "Merge") {
@@ -207,7 +210,8 @@ func (h *starvedSource) Outcomes() ([]serfagent.Outcome, error) {
 // If memory runs out while a node reads outcomes, the node tries again until it has read all of them.
 func TestOutcomesAreReadEventually(t *testing.T) {
 	for failures := 0; failures < 4; failures++ {
-		if found, err := readOutcomes(&starvedSource{failures}, make([]serfagent.Outcome, 2), serfagent.OutOfMemory); len(found) != 3 || err != serfagent.OutOfMemory {
+		if found, err := readOutcomes(&starvedSource{failures}, make([]serfagent.Outcome, 2), serfagent.OutOfMemory); len(found) != 3 ||
+			err != serfagent.OutOfMemory {
 			t.Error(failures, found, err)
 		}
 	}

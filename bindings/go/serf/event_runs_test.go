@@ -62,7 +62,9 @@ func (n *testNode) handle(e UserEvent, runs ...HandlerRun) {
 func TestEventRuns(t *testing.T) {
 	folder := t.TempDir()
 	a := startNode(t, "a", folder, withTracking)
-	good, bad, plain, none := a.fireNew("good", nil), a.fireNew("bad", []byte{0, ' ', '\n', 0xff}), a.fireNew("plain", nil), a.fireNew("none", nil)
+	good, bad, plain, none := a.fireNew("good", nil), a.fireNew(
+		"bad", []byte{0, ' ', '\n', 0xff},
+	), a.fireNew("plain", nil), a.fireNew("none", nil)
 	begun, waiting := a.fireNew("begun", []byte("v1")), a.fireNew("waiting", nil)
 	a.handle(good, HandlerRun{"deploy", "0"})
 	a.handle(bad, HandlerRun{"deploy", "3"}, HandlerRun{"rerun:odd name=\n", RanSignal + "9"})
@@ -75,7 +77,9 @@ func TestEventRuns(t *testing.T) {
 	must(t, a.Begin(begun))
 	must(t, a.RecordProcess(begun, HandlerProcess{"first", 1, 2, "x"}))
 	must(t, a.RecordProcess(begun, process))
-	for what, err := range map[error]error{a.RecordProcess(good, process): ErrNotOpen, a.RecordProcess(waiting, process): ErrNotBegun, a.DoneWith(good, nil): ErrNotOpen} {
+	for what, err := range map[error]error{
+		a.RecordProcess(good, process): ErrNotOpen, a.RecordProcess(waiting, process): ErrNotBegun, a.DoneWith(good, nil): ErrNotOpen,
+	} {
 		if what != err {
 			t.Errorf("%v, and not %v", what, err)
 		}
@@ -96,7 +100,9 @@ func TestEventRuns(t *testing.T) {
 	sameRuns(t, "again", a.compactNow(), strings.Replace(want, "4711", "4711 again", 1)+"7 later: never began\n")
 	must(t, a.DoneWith(begun, []HandlerRun{{"deploy", RanCutOff}, {"rerun:deploy", "0"}}))
 	a.handle(waiting, HandlerRun{"deploy", RanTimedOut})
-	want = strings.NewReplacer("begun: begun deploy 4711", "begun: done deploy=cut-off rerun:deploy=0", "waiting: waiting", "waiting: done deploy=timed-out").Replace(want) + "7 later: never began\n"
+	want = strings.NewReplacer(
+		"begun: begun deploy 4711", "begun: done deploy=cut-off rerun:deploy=0", "waiting: waiting", "waiting: done deploy=timed-out",
+	).Replace(want) + "7 later: never began\n"
 	sameRuns(t, "the second life", a.kill(), want)
 	a = startNode(t, "a", folder, withTracking)
 	sameRuns(t, "the third life", a.compactNow(), want)
@@ -110,7 +116,8 @@ func TestKeptRunsAreBounded(t *testing.T) {
 	for i := 1; i <= MaxKeptRuns+3; i++ {
 		runs.add(LamportTime(i), ranLine(eventKey{LamportTime(i), "n", ""}, nil))
 	}
-	if text := string(runs.text()); len(runs.lines) != MaxKeptRuns || !strings.HasPrefix(text, "#ran 3\n#ran 4 6e \n") || len(text) != runs.bytes+len("#ran 3\n") {
+	if text := string(runs.text()); len(runs.lines) != MaxKeptRuns || !strings.HasPrefix(text, "#ran 3\n#ran 4 6e \n") ||
+		len(text) != runs.bytes+len("#ran 3\n") {
 		t.Error(len(runs.lines), text[:40])
 	}
 	long := strings.Repeat("x", 10000)
@@ -160,14 +167,21 @@ func TestTextsOfOtherPrograms(t *testing.T) {
 		{"only its end is left", "#done 5\n#ran 0\n#ran 4 64  x=0\n", "4 d: done x=0\n"},
 		{"a torn line", "#done 0\n#ran 0\n#event 1 61 \n#begun 1 61 \n#done 1 61 \n#ran 1 61  x=1", "1 a: done\n"},
 		{"it is still open", "#done 5\n#open 2 62 \n#begun 2 62 \n#process 2 62  x 7 8 9\n", "2 b: begun x 7\n"},
-		{"lines that are none", "#done 0\n#ran 0\n#event 1 61 \n#ran 1 61  x\n#ran 1 61  =\n#ran 1 61  x=\x1b[0m\n#ran 1 6 x=0\n#ran 0 61  x=0\n#ran 18446744073709551615 61  x=0\n" +
-			"#ran\n#ran \n#ran x\n#process 1 61  x 0 1 1\n#process 1 61  x 1 1\n#process 1 61  \x1b 1 1 1\n#begun 1 61  x\n#ran 1 61  x=0", "1 a: waiting\n"},
+		{
+			"lines that are none",
+			"#done 0\n#ran 0\n#event 1 61 \n#ran 1 61  x\n#ran 1 61  =\n#ran 1 61  x=\x1b[0m\n#ran 1 6 x=0\n#ran 0 61  x=0\n" +
+				"#ran 18446744073709551615 61  x=0\n#ran\n#ran \n#ran x\n#process 1 61  x 0 1 1\n#process 1 61  x 1 1\n" +
+				"#process 1 61  \x1b 1 1 1\n#begun 1 61  x\n#ran 1 61  x=0",
+			"1 a: waiting\n",
+		},
 	} {
 		sameRuns(t, test.what, test.text, test.want)
 	}
 	for text, minimum := range map[string]LamportTime{
-		"": 1, "event-clock: 7\n": 8, "event-clock: 07\n": 1, "#least event-clock: 9\nevent-clock: 012\n": 9, "#least event-clock: 9\nevent-clock: 12\nevent-clock: 3\n": 13,
-		"event-clock: \nevent-clock: x\n#least event-clock: \nquery-clock: 8\n": 1, "event-clock: 18446744073709551615\n": 18446744073709551615,
+		"": 1, "event-clock: 7\n": 8, "event-clock: 07\n": 1, "#least event-clock: 9\nevent-clock: 012\n": 9,
+		"#least event-clock: 9\nevent-clock: 12\nevent-clock: 3\n":              13,
+		"event-clock: \nevent-clock: x\n#least event-clock: \nquery-clock: 8\n": 1,
+		"event-clock: 18446744073709551615\n":                                   18446744073709551615,
 	} {
 		if found, err := EventRunsOf([]byte(text)); err != nil || found.Minimum != minimum {
 			t.Errorf("%q: %v, %v", text, found, err)
@@ -181,9 +195,11 @@ func TestTextsOfOtherPrograms(t *testing.T) {
 // If a file is cut at any byte, it says less, but nothing false. No event that isn't done is reported as done, and no
 // event whose handler began is reported as one that never began.
 func TestCutTextsOfRuns(t *testing.T) {
-	whole := "#done 0\n#ran 0\n#event 1 61 \n#begun 1 61 \n#process 1 61  x 7 8 9\n#done 1 61 \n#ran 1 61  x=17\n#event 2 62 \n#begun 2 62 \n"
+	whole := "#done 0\n#ran 0\n#event 1 61 \n#begun 1 61 \n#process 1 61  x 7 8 9\n#done 1 61 \n#ran 1 61  x=17\n" +
+		"#event 2 62 \n#begun 2 62 \n"
 	allowed := map[string]bool{
-		"": true, "1 a: unknown": true, "1 a: waiting": true, "1 a: begun": true, "1 a: begun x 7": true, "1 a: done": true, "1 a: done x=17": true,
+		"": true, "1 a: unknown": true, "1 a: waiting": true, "1 a: begun": true, "1 a: begun x 7": true, "1 a: done": true,
+		"1 a: done x=17":               true,
 		"1 a: done x=17\n2 b: waiting": true, "1 a: done x=17\n2 b: begun": true,
 	}
 	last := ""
@@ -203,8 +219,10 @@ func TestCutTextsOfRuns(t *testing.T) {
 func TestLinesOfRunsAreOtherLines(t *testing.T) {
 	key := eventKey{2, "bb", "\x00v"}
 	with := []string{
-		"#done 0\n", completeAfterLine(18446744073709551615), "clock: 3\n", "event-clock: 02\n", "#event 1 61 \n", ranLine(eventKey{1, "a", ""}, []HandlerRun{{"x", "0"}}), "#event 2 6262 0076\n",
-		"#begun 2 6262 0076\n", processLine(key, HandlerProcess{"event-clock: 9", 1, 2, "b"}), ranLine(key, nil), "query-clock: 05\n", ranLine(key, []HandlerRun{{"#done 5\n", "#event 1"}}),
+		"#done 0\n", completeAfterLine(18446744073709551615), "clock: 3\n", "event-clock: 02\n", "#event 1 61 \n",
+		ranLine(eventKey{1, "a", ""}, []HandlerRun{{"x", "0"}}), "#event 2 6262 0076\n",
+		"#begun 2 6262 0076\n", processLine(key, HandlerProcess{"event-clock: 9", 1, 2, "b"}), ranLine(key, nil), "query-clock: 05\n",
+		ranLine(key, []HandlerRun{{"#done 5\n", "#event 1"}}),
 	}
 	var without []string
 	for _, line := range with {
@@ -284,7 +302,9 @@ func TestProcesses(t *testing.T) {
 	if other.Boot = "another"; other.IsRunning() || other.IsOfThisBoot() {
 		t.Error("a process of another boot is the same")
 	}
-	if key := (eventKey{1, "a", ""}); !reflect.DeepEqual(readHandlerText([]byte("#done 0\n" + processLine(key, process))).processes[key], process) {
+	key := eventKey{1, "a", ""}
+	read := readHandlerText([]byte("#done 0\n" + processLine(key, process))).processes[key]
+	if !reflect.DeepEqual(read, process) {
 		t.Error(processLine(key, process))
 	}
 	check(t, input.Close())
@@ -323,7 +343,8 @@ func TestProcessWithAnOddName(t *testing.T) {
 // stay open.
 func TestSkippedEventsShareALine(t *testing.T) {
 	for open, want := range map[int]string{
-		0: "#done 4\n", 5: "#done 4\n", 1: "#done 2 6e \n#done 3 6e \n#done 4 6e \n", 3: "#done 1 6e \n#done 2 6e \n#done 4 6e \n", 4: "#done 3\n",
+		0: "#done 4\n", 5: "#done 4\n", 1: "#done 2 6e \n#done 3 6e \n#done 4 6e \n", 3: "#done 1 6e \n#done 2 6e \n#done 4 6e \n",
+		4: "#done 3\n",
 	} {
 		a := startNode(t, "a", t.TempDir(), withTracking)
 		var events []UserEvent

@@ -319,7 +319,9 @@ func (f *fakeAgent) TakeAll(_ uint64, packets []Packet, firings []Firing) (outco
 		}
 		f.time++
 		event := &serfagent.Event{Time: f.time, Name: []byte("fake"), Payload: packet.Data[1:]}
-		outcomes = append(outcomes, serfagent.Outcome{Received: &serfagent.Received{Kind: serfagent.NewEvent, Event: event, Rebroadcast: true}})
+		outcomes = append(
+			outcomes, serfagent.Outcome{Received: &serfagent.Received{Kind: serfagent.NewEvent, Event: event, Rebroadcast: true}},
+		)
 	}
 	for _, firing := range firings {
 		f.time++

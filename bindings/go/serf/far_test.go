@@ -37,7 +37,9 @@ var farStates = map[string]func(time uint64) []byte{
 	"a status":               func(time uint64) []byte { return withTime("\x02\x81\xacStatusLTimes\x81\xa1b", time, "") },
 	"a state's event clock":  func(time uint64) []byte { return withTime("\x02\x81\xaaEventLTime", time, "") },
 	"a state's event": func(time uint64) []byte {
-		return withTime("\x02\x82\xaaEventLTime\x01\xa6Events\x92\xc0\x82\xa5LTime", time, "\xa6Events\x91\x82\xa4Name\xa3far\xa7Payload\xa0")
+		return withTime(
+			"\x02\x82\xaaEventLTime\x01\xa6Events\x92\xc0\x82\xa5LTime", time, "\xa6Events\x91\x82\xa4Name\xa3far\xa7Payload\xa0",
+		)
 	},
 	"a state's query clock": func(time uint64) []byte { return withTime("\x02\x81\xaaQueryLTime", time, "") },
 }
@@ -115,7 +117,9 @@ func TestFarThreshold(t *testing.T) {
 // of the node itself.)
 func floodNearBound(a *testNode, duration time.Duration) {
 	for end := time.Now().Add(duration); time.Now().Before(end); {
-		for _, near := range []uint64{farTimeAfter(-time.Millisecond), farTimeAfter(0) - 1, farTimeAfter(0), farTimeAfter(time.Second), 1<<63 - 1, 1 << 63} {
+		for _, near := range []uint64{
+			farTimeAfter(-time.Millisecond), farTimeAfter(0) - 1, farTimeAfter(0), farTimeAfter(time.Second), 1<<63 - 1, 1 << 63,
+		} {
 			for what, packet := range farPackets {
 				if what != "a leave" {
 					a.delegate().NotifyMsg(packet(near))
@@ -195,8 +199,10 @@ func TestFarTimesNearOwnClock(t *testing.T) {
 		o.timeOfDay = func() time.Time { return time.Now().Add(-time.Duration(back.Load())) }
 	})
 	clockOf := map[string]func(serfagent.Clocks) uint64{
-		"an event": func(clocks serfagent.Clocks) uint64 { return clocks.Event }, "an event whose time comes last": func(clocks serfagent.Clocks) uint64 { return clocks.Event },
-		"a query": func(clocks serfagent.Clocks) uint64 { return clocks.Query }, "a join": func(clocks serfagent.Clocks) uint64 { return clocks.Member },
+		"an event":                       func(clocks serfagent.Clocks) uint64 { return clocks.Event },
+		"an event whose time comes last": func(clocks serfagent.Clocks) uint64 { return clocks.Event },
+		"a query":                        func(clocks serfagent.Clocks) uint64 { return clocks.Query },
+		"a join":                         func(clocks serfagent.Clocks) uint64 { return clocks.Member },
 	}
 	for what, clock := range clockOf {
 		back.Store(0)
@@ -256,7 +262,9 @@ func TestReadTimesAgreesWithLibrary(t *testing.T) {
 	accepted := 0
 	for _, whole := range append(allPackets(farPackets), append(allPackets(farStates), unhex(t, statePacket), unhex(t, leavePacket))...) {
 		for i := range whole {
-			for _, value := range []byte{whole[i], whole[i] ^ 1, 0x01, 0x7f, 0x80, 0x81, 0x90, 0x91, 0xa1, 0xc0, 0xc4, 0xcc, 0xd0, 0xd3, 0xff} {
+			for _, value := range []byte{
+				whole[i], whole[i] ^ 1, 0x01, 0x7f, 0x80, 0x81, 0x90, 0x91, 0xa1, 0xc0, 0xc4, 0xcc, 0xd0, 0xd3, 0xff,
+			} {
 				damaged := append([]byte(nil), whole...)
 				damaged[i] = value
 				times, err := readTimes(damaged)

@@ -112,13 +112,17 @@ func (n *testNode) waitForMark(at uint64) {
 var malformedPackets = []string{
 	"\x63\x80", "\x03", "\x03\xc1", "\x03\x91\x91\x91\x91\x91\x91\x91\x91\x91\xc0", "\x03\x80\x00", "\x03\x07", "\x03\x81\x01\x01",
 	"\x03\x82\xa5LTime\x01\xa5LTime\x01", "\x03\x81\xa5LTime\xa1x", "\x05\x81\xa2ID\xcf\x00\x00\x00\x01\x00\x00\x00\x00",
-	"\x03\x81\xa5LTime\xcf\xff\xff\xff\xff\xff\xff\xff\xff", "\x03\xdf\xff\xff\xff\xff", "\x02\x81\xa6Events\xdd\xff\xff\xff\xff", "\x04\x81\xa4Name\xdb\xff\xff\xff\xff",
+	"\x03\x81\xa5LTime\xcf\xff\xff\xff\xff\xff\xff\xff\xff", "\x03\xdf\xff\xff\xff\xff", "\x02\x81\xa6Events\xdd\xff\xff\xff\xff",
+	"\x04\x81\xa4Name\xdb\xff\xff\xff\xff",
 }
 
 // A query for other nodes is rebroadcast unchanged, and not handed out here.
 func TestQueryForOthersIsRebroadcast(t *testing.T) {
 	a := startNode(t, "a", "", withAgent(smallAgent(t)), withTags("role", "web"))
-	for i, filter := range [][]byte{serfagent.FilterByTag("role", "db"), serfagent.FilterByTag("role", "("), serfagent.FilterByTag("none", "x"), serfagent.FilterByNames("b")} {
+	for i, filter := range [][]byte{
+		serfagent.FilterByTag("role", "db"), serfagent.FilterByTag("role", "("), serfagent.FilterByTag("none", "x"),
+		serfagent.FilterByNames("b"),
+	} {
 		packet := forgedQuery(uint64(i+1), 7, 0, filter)
 		a.delegate().NotifyMsg(packet)
 		a.waitForMark(uint64(i + 1))
@@ -231,7 +235,8 @@ func TestRestartContinuesWindow(t *testing.T) {
 			third.delegate().NotifyMsg(packet)
 		}
 		third.waitForMark(6)
-		if found := second.payloads("flood"); !reflect.DeepEqual(found, append(test.second, "mark 5")) || len(third.payloads("flood")) != 1 {
+		if found := second.payloads("flood"); !reflect.DeepEqual(found, append(test.second, "mark 5")) ||
+			len(third.payloads("flood")) != 1 {
 			t.Errorf("%+v: %v, then %v", test, found, third.payloads("flood"))
 		}
 	}
@@ -298,10 +303,14 @@ func (f *flooder) makeRound(count int) (packets [][]byte) {
 		rand.Read(garbage)
 		garbage[0] %= 12
 		packets = append(packets,
-			forgedEvent(at-at%64, f.nextPayload(900)), forgedEvent(at, f.nextPayload(900)), forgedEvent(at/2, f.nextPayload(900)), forgedEvent(0, f.nextPayload(900)),
-			forgedEvent(at, f.nextPayload(9_900)), forgedEvent(2*FarTime+at, f.nextPayload(9)), forgedQuery(at, id, 0), forgedQuery(at, id+1<<20, 1),
-			forgedAnswer(at, id, nobody, 0), forgedAnswer(at, id, nobody, 1), withTime("\x01\x82\xa5LTime", at, "\xa4Node\xb0"+f.nextPayload(0)[4:]),
-			[]byte(malformedPackets[i%len(malformedPackets)]), garbage, encodeRelay(relay{addr: net.IPv4(127, 0, 0, 9), port: 9, name: nobody, message: garbage}),
+			forgedEvent(at-at%64, f.nextPayload(900)), forgedEvent(at, f.nextPayload(900)), forgedEvent(at/2, f.nextPayload(900)),
+			forgedEvent(0, f.nextPayload(900)),
+			forgedEvent(at, f.nextPayload(9_900)), forgedEvent(2*FarTime+at, f.nextPayload(9)), forgedQuery(at, id, 0),
+			forgedQuery(at, id+1<<20, 1),
+			forgedAnswer(at, id, nobody, 0), forgedAnswer(at, id, nobody, 1),
+			withTime("\x01\x82\xa5LTime", at, "\xa4Node\xb0"+f.nextPayload(0)[4:]),
+			[]byte(malformedPackets[i%len(malformedPackets)]), garbage,
+			encodeRelay(relay{addr: net.IPv4(127, 0, 0, 9), port: 9, name: nobody, message: garbage}),
 		)
 	}
 	return packets
@@ -328,7 +337,9 @@ func TestFloodOfPackets(t *testing.T) {
 	const rounds, count = 15, 300
 	routines := runtime.NumGoroutine()
 	f := &flooder{time: 1 << 32, seen: map[string]int{}}
-	a, b := startNode(t, "a", "", withAgent(smallAgent(t)), withOnEvent(f.receive)), startNode(t, "b", "", withAgent(smallAgent(t)), func(o *nodeOptions) {
+	a, b := startNode(
+		t, "a", "", withAgent(smallAgent(t)), withOnEvent(f.receive),
+	), startNode(t, "b", "", withAgent(smallAgent(t)), func(o *nodeOptions) {
 		o.MemberlistConfig.ProbeInterval, o.MemberlistConfig.ProbeTimeout = time.Hour, time.Minute
 	})
 	b.join(a)
@@ -384,7 +395,8 @@ func (f *flooder) verify(t *testing.T, a *testNode, min int) {
 			t.Errorf("%s was handed out %d times", what, times)
 		}
 	}
-	if f.events < min || f.queries < min || a.droppedFar.Load() < int64(min) || a.Fault() != nil || a.Serf.events.NumQueued() > Waiting || len(a.members.intents) > maxIntents {
+	if f.events < min || f.queries < min || a.droppedFar.Load() < int64(min) || a.Fault() != nil || a.Serf.events.NumQueued() > Waiting ||
+		len(a.members.intents) > maxIntents {
 		t.Errorf("%d events and %d queries: %v, %v", f.events, f.queries, a.Fault(), a.Stats())
 	}
 }

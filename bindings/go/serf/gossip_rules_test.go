@@ -58,7 +58,8 @@ func TestOldestIncomingPacketsAreDropped(t *testing.T) {
 	for _, text := range []string{"first", "second", "third"} {
 		queue.add(broadcast{packet: []byte(text)})
 	}
-	if waiting := queue.incoming; len(waiting) != 2 || string(waiting[0].packet) != "second" || string(waiting[1].packet) != "third" || s.dropped.Load() != 1 {
+	if waiting := queue.incoming; len(waiting) != 2 || string(waiting[0].packet) != "second" || string(waiting[1].packet) != "third" ||
+		s.dropped.Load() != 1 {
 		t.Error(waiting, s.dropped.Load())
 	}
 }
@@ -237,7 +238,9 @@ func TestOldHeldIntentsAreForgotten(t *testing.T) {
 func TestLeavingNodeDoesNotReconnect(t *testing.T) {
 	for state, want := range map[SerfState]bool{SerfAlive: true, SerfLeaving: false} {
 		logs := &logBuffer{}
-		a := startNode(t, "a", "", withAgent(&fakeAgent{}), withLog(logs), func(o *nodeOptions) { o.ReconnectInterval = 5 * time.Millisecond })
+		a := startNode(
+			t, "a", "", withAgent(&fakeAgent{}), withLog(logs), func(o *nodeOptions) { o.ReconnectInterval = 5 * time.Millisecond },
+		)
 		a.stateMu.Lock()
 		a.state = state
 		a.stateMu.Unlock()

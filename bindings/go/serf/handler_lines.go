@@ -145,7 +145,9 @@ type handlerText struct {
 // readHandlerText reads the text of a snapshot. Like the library, it ignores lines about handlers before the first line
 // `#done TIME`, and a last line without a newline.
 func readHandlerText(text []byte) *handlerText {
-	t := &handlerText{begunCounts: map[eventKey]int{}, runs: map[eventKey][]HandlerRun{}, processes: map[eventKey]HandlerProcess{}, minimum: 1}
+	t := &handlerText{
+		begunCounts: map[eventKey]int{}, runs: map[eventKey][]HandlerRun{}, processes: map[eventKey]HandlerProcess{}, minimum: 1,
+	}
 	known, hasEnded, isTracked := map[eventKey]bool{}, map[eventKey]bool{}, false
 	for lineEnd := bytes.IndexByte(text, '\n'); lineEnd >= 0; lineEnd = bytes.IndexByte(text, '\n') {
 		line := text[:lineEnd]

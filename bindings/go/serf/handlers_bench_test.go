@@ -6,8 +6,8 @@ import (
 	"testing"
 )
 
-// measureFile opens a node's file and handles the events of the benchmark, without a network. It returns the largest size of the file, and its size
-// after a compaction.
+// measureFile opens a node's file and handles the events of the benchmark, without a network. It returns the largest size of
+// the file, and its size after a compaction.
 func measureFile(b *testing.B, isTracked bool, payload []byte) (largest, compacted int64) {
 	c := loopbackConfig("a")
 	events := make(chan Event, Waiting)

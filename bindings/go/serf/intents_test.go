@@ -39,7 +39,9 @@ func TestSerfsIntents(t *testing.T) {
 		}
 	}
 	members, err := serfagent.MembersOf(unhex(t, statePacket))
-	want := &serfagent.Members{MemberClock: 3, Statuses: []serfagent.Status{{Name: "alpha"}, {Name: "beta", Time: 2}}, Left: []string{"beta"}}
+	want := &serfagent.Members{
+		MemberClock: 3, Statuses: []serfagent.Status{{Name: "alpha"}, {Name: "beta", Time: 2}}, Left: []string{"beta"},
+	}
 	if err != nil || !reflect.DeepEqual(members, want) {
 		t.Errorf("%+v %v", members, err)
 	}

@@ -32,7 +32,9 @@ func TestNoJoinIntentAfterLeave(t *testing.T) {
 	must(t, b.Leave())
 	before, err := b.agent.Clocks()
 	must(t, err)
-	for _, request := range []func() error{b.announce, func() error { b.refuteLeave(); return nil }, func() error { signal(b.announceNeeded); return nil }} {
+	for _, request := range []func() error{
+		b.announce, func() error { b.refuteLeave(); return nil }, func() error { signal(b.announceNeeded); return nil },
+	} {
 		check(t, request())
 	}
 	eventually(t, "the request for a join intent was read", func() bool { return len(b.announceNeeded) == 0 })

@@ -91,7 +91,15 @@ func TestFloodOfKeptEvents(t *testing.T) {
 	var longest int64
 	for life := 0; life < 2; life++ {
 		a := startNode(t, "a", folder, withKeptEvents)
-		a.delegate().MergeRemoteState(encode(stateMessage{LTime: 3, EventLTime: 1, Events: []*slotMessage{nil, {LTime: 1, Events: []eventMessage{{Name: "of a state"}}}}}, stateType), false)
+		a.delegate().MergeRemoteState(
+			encode(
+				stateMessage{
+					LTime: 3, EventLTime: 1, Events: []*slotMessage{nil, {LTime: 1, Events: []eventMessage{{Name: "of a state"}}}},
+				},
+				stateType,
+			),
+			false,
+		)
 		for time := uint64(1); time < 200; time++ {
 			for i := 0; i < 40; i++ {
 				name := fmt.Sprintf("e%d-%d-%d", time, i, i%2*life)
@@ -112,7 +120,9 @@ func TestFloodOfKeptEvents(t *testing.T) {
 		for i := 0; i < 40; i++ {
 			many = append(many, eventMessage{Name: fmt.Sprint("s", i), Payload: payload})
 		}
-		a.delegate().MergeRemoteState(encode(stateMessage{LTime: 77, EventLTime: 300, Events: []*slotMessage{{many, 199}}}, stateType), false)
+		a.delegate().MergeRemoteState(
+			encode(stateMessage{LTime: 77, EventLTime: 300, Events: []*slotMessage{{many, 199}}}, stateType), false,
+		)
 		eventually(t, "the state is dropped", func() bool { return a.droppedKept.Load() > before })
 		eventually(t, "its member clock is observed", func() bool { return a.Stats()["member_time"] >= "77" })
 		check(t, a.UserEvent("own", []byte(fmt.Sprint(life)), false))
@@ -162,7 +172,10 @@ func TestGrowingFileIsCompacted(t *testing.T) {
 // A file of any length and with any lines is read.
 func TestLongSnapshots(t *testing.T) {
 	path := filepath.Join(t.TempDir(), "file")
-	writeFile(t, path, "alive: a 1:1\n#"+strings.Repeat("x", 5*maxLineLength)+"\nalive: b 2:2\n"+strings.Repeat("y", maxLineLength)+"\nalive: c 3:3")
+	writeFile(
+		t, path,
+		"alive: a 1:1\n#"+strings.Repeat("x", 5*maxLineLength)+"\nalive: b 2:2\n"+strings.Repeat("y", maxLineLength)+"\nalive: c 3:3",
+	)
 	f, found, err := openSnapshot(path, false, plainLines{t, path})
 	if err != nil || fmt.Sprint(found) != "[c: 3:3 b: 2:2 a: 1:1]" {
 		t.Fatal(found, err)

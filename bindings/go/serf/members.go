@@ -238,8 +238,8 @@ type intentOutcome struct {
 	mustRefute bool
 }
 
-// receiveIntent applies an intent. It has an effect only if its time is larger than that of the member's status. A node also refutes a leave
-// that has the same time as its join intent: a node that received the leave first ignores that join intent.
+// receiveIntent applies an intent. It has an effect only if its time is larger than that of the member's status. A node also
+// refutes a leave that has the same time as its join intent: a node that received the leave first ignores that join intent.
 func (l *memberList) receiveIntent(intent serfagent.Intent) (found intentOutcome) {
 	l.change(func() { found = l.applyIntent(intent) })
 	return found

@@ -74,7 +74,10 @@ func TestMemberHistories(t *testing.T) {
 		{"join a; leaves a 3; came a 4", "new new", "alive", "member-join a"},
 		{"join a; leaves a 3; came a 2; gone a", "new", "left", "member-join a, member-leave a"},
 		{"join a; gone a; leaves a 3", "new", "left", "member-join a, member-failed a, member-leave a"},
-		{"join a; leaves a 3; gone a; join a; leaves a 3; gone a", "new", "failed", "member-join a, member-leave a, member-join a, member-failed a"},
+		{
+			"join a; leaves a 3; gone a; join a; leaves a 3; gone a", "new", "failed",
+			"member-join a, member-leave a, member-join a, member-failed a",
+		},
 		{"leaves a 3; join a; gone a", "new", "left", "member-join a, member-leave a"},
 		{"leaves a 3; came a 4; join a; gone a", "new new", "failed", "member-join a, member-failed a"},
 		{"came a 4; leaves a 3; join a; gone a", "new", "failed", "member-join a, member-failed a"},
@@ -104,7 +107,9 @@ func TestMemberHistories(t *testing.T) {
 func TestSnapshotLines(t *testing.T) {
 	c := newTestMembers()
 	c.run("join a; join b; gone a; leaves b 3; gone b; join c")
-	want := []string{"alive: a 127.0.0.1:7946\n", "alive: b 127.0.0.1:7946\n", "not-alive: a\n", "not-alive: b\n", "alive: c 127.0.0.1:7946\n"}
+	want := []string{
+		"alive: a 127.0.0.1:7946\n", "alive: b 127.0.0.1:7946\n", "not-alive: a\n", "not-alive: b\n", "alive: c 127.0.0.1:7946\n",
+	}
 	if !reflect.DeepEqual(c.lines, want) {
 		t.Error(c.lines)
 	}
@@ -135,7 +140,8 @@ func TestMergeState(t *testing.T) {
 	if b, _ := second.get("b"); b.Status != StatusLeft {
 		t.Error(b.Status)
 	}
-	if isWrong, time := second.mergeState(&serfagent.Members{Statuses: []serfagent.Status{{Name: "self", Time: 9}}, Left: []string{"self"}}); !isWrong || time != 9 {
+	state := &serfagent.Members{Statuses: []serfagent.Status{{Name: "self", Time: 9}}, Left: []string{"self"}}
+	if isWrong, time := second.mergeState(state); !isWrong || time != 9 {
 		t.Error("a state that says that this node left is not wrong", time)
 	}
 }
@@ -146,7 +152,10 @@ func TestLaterStatusOfItselfIsRefuted(t *testing.T) {
 	for _, step := range []struct {
 		own, status                  uint64
 		wantRefuted, mustRefuteLeave bool
-	}{{3, 2, false, false}, {3, 3, false, false}, {3, 5, true, true}, {5, 5, false, true}, {6, 5, false, false}, {6, 6, false, false}, {6, 7, true, true}} {
+	}{
+		{3, 2, false, false}, {3, 3, false, false}, {3, 5, true, true}, {5, 5, false, true}, {6, 5, false, false}, {6, 6, false, false},
+		{6, 7, true, true},
+	} {
 		c.setOwnStatus(StatusAlive, step.own)
 		mustRefute, _ := c.mergeState(&serfagent.Members{Statuses: []serfagent.Status{{Name: "self", Time: step.status}}})
 		if mustRefute != step.wantRefuted || c.mustRefuteLeave() != step.mustRefuteLeave {
@@ -359,7 +368,8 @@ func TestNodeForgetsItselfOnlyAfterLeave(t *testing.T) {
 	}
 }
 
-// If the list is full, a member that failed or left makes room: the oldest one at the address that has the largest number of them. Living members never do.
+// If the list is full, a member that failed or left makes room: the oldest one at the address that has the largest number of
+// them. Living members never do.
 func TestFailedMemberMakesRoom(t *testing.T) {
 	c := newTestMembers()
 	if c.makeRoom() {

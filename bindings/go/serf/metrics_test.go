@@ -66,7 +66,8 @@ func TestMetrics(t *testing.T) {
 	for _, what := range []string{
 		"serf.events=2", "serf.events.deploy_app=2", "serf.queries=2", "serf.queries.load=2", "serf.query_acks=", "serf.query_responses=1",
 		"serf.msgs.received=", "serf.msgs.sent=", "serf.member.join=", "serf.member.failed=1", "serf.member.flap=1", "serf.member.update=",
-		"serf.queue.Intent=", "serf.queue.Event=", "serf.queue.Query=", "serf.snapshot.appendLine=", "serf.burst=", "serf.coordinate.adjustment-ms=",
+		"serf.queue.Intent=", "serf.queue.Event=", "serf.queue.Query=", "serf.snapshot.appendLine=", "serf.burst=",
+		"serf.coordinate.adjustment-ms=",
 		"memberlist.gossip=", "memberlist.udp.sent=",
 	} {
 		eventually(t, what, func() bool { return strings.Contains(counted(), "\n"+what) })
@@ -94,7 +95,8 @@ func TestNumberOfCountedNamesIsLimited(t *testing.T) {
 			t.Errorf("%q: %s", what, text)
 		}
 	}
-	if name := sinkName("a b:c|d\n.e-f_g{\"ü" + strings.Repeat("x", 99)); name != "a_b_c_d_.e-f_g___"+strings.Repeat("x", maxCountedLength-18) {
+	want := "a_b_c_d_.e-f_g___" + strings.Repeat("x", maxCountedLength-18)
+	if name := sinkName("a b:c|d\n.e-f_g{\"ü" + strings.Repeat("x", 99)); name != want {
 		t.Error(name)
 	}
 }
@@ -119,7 +121,9 @@ func TestReservedNamesAreCounted(t *testing.T) {
 	}
 	names.report()
 	text := counted()
-	for _, what := range []string{"\nserf.events.early=1\n", "\nserf.events.late=1\n", "\nserf.events.never=0\n", "\nserf.events.e1=2\n", "\nserf.events.e200=1\n"} {
+	for _, what := range []string{
+		"\nserf.events.early=1\n", "\nserf.events.late=1\n", "\nserf.events.never=0\n", "\nserf.events.e1=2\n", "\nserf.events.e200=1\n",
+	} {
 		if !strings.Contains(text, what) {
 			t.Errorf("%q: %s", what, text)
 		}

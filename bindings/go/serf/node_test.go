@@ -154,7 +154,8 @@ func TestQueryAndResponseSizeLimits(t *testing.T) {
 	if _, err := a.Query("x", bytes.Repeat([]byte("x"), 1600), tagged); err != nil {
 		t.Error(err)
 	}
-	if _, err := a.Query("x", bytes.Repeat([]byte("x"), 1950), tagged); err == nil || !strings.Contains(err.Error(), "limit of 2000 bytes") {
+	if _, err := a.Query("x", bytes.Repeat([]byte("x"), 1950), tagged); err == nil ||
+		!strings.Contains(err.Error(), "limit of 2000 bytes") {
 		t.Error(err)
 	}
 }
@@ -331,7 +332,8 @@ func TestKeys(t *testing.T) {
 		wantErr string
 	}{
 		{keys.InstallKey, text(2), ""}, {keys.UseKey, text(2), ""}, {keys.UseKey, text(3), "2/2 nodes reported failure"},
-		{keys.RemoveKey, text(2), "2/2 nodes reported failure"}, {keys.RemoveKey, text(1), ""}, {list, "", ""}, {keys.InstallKey, "%", "illegal base64"},
+		{keys.RemoveKey, text(2), "2/2 nodes reported failure"}, {keys.RemoveKey, text(1), ""}, {list, "", ""},
+		{keys.InstallKey, "%", "illegal base64"},
 	} {
 		var found *KeyResponse
 		var err error
@@ -447,7 +449,11 @@ func TestMemberWithTooLongName(t *testing.T) {
 func TestHostilePackets(t *testing.T) {
 	a, b := startPair(t)
 	for kind := 0; kind < 256; kind++ {
-		for _, rest := range []string{"", "\x80", "\xc1", "\xdf\xff\xff\xff\xff", "\x81\xa4Node\xdb\xff\xff\xff\xff", "\x82\xa5LTime\xcf\xff\xff\xff\xff\xff\xff\xff\xff\xa4Node\xa1x", strings.Repeat("\x91", 100), "\x81\xa8DestAddr\x81\xa2IP\xa41234x"} {
+		for _, rest := range []string{
+			"", "\x80", "\xc1", "\xdf\xff\xff\xff\xff", "\x81\xa4Node\xdb\xff\xff\xff\xff",
+			"\x82\xa5LTime\xcf\xff\xff\xff\xff\xff\xff\xff\xff\xa4Node\xa1x", strings.Repeat("\x91", 100),
+			"\x81\xa8DestAddr\x81\xa2IP\xa41234x",
+		} {
 			a.delegate().NotifyMsg(append([]byte{byte(kind)}, rest...))
 			a.delegate().MergeRemoteState(append([]byte{byte(kind)}, rest...), kind%2 == 0)
 		}

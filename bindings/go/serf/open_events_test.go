@@ -77,7 +77,8 @@ func TestUnfinishedEvents(t *testing.T) {
 	if found := a.unfinished(); found != "begun+ waiting" {
 		t.Fatalf("%q", found)
 	}
-	if e := a.Unfinished()[1].UserEvent; fmt.Sprint(e) != fmt.Sprint(waiting) || !bytes.Equal(e.Payload, waiting.Payload) || e.LTime != waiting.LTime {
+	if e := a.Unfinished()[1].UserEvent; fmt.Sprint(e) != fmt.Sprint(waiting) || !bytes.Equal(e.Payload, waiting.Payload) ||
+		e.LTime != waiting.LTime {
 		t.Error(e)
 	}
 	if err := a.Begin(begun); err != ErrAlreadyBegun {
@@ -228,7 +229,8 @@ func TestCutOffLines(t *testing.T) {
 	// (the `#ran` line follows the `#done` line)
 	afterFirst := len(text) - len(ranLine(keyOf(first), nil))
 	afterSecond -= int64(len(ranLine(keyOf(second), nil)))
-	if !strings.HasSuffix(text[:afterSecond], "#done 2 7365636f6e64 7632\n") || afterSecond <= flushed || !strings.HasSuffix(text[:afterFirst], "#done 1 6669727374 \n") {
+	if !strings.HasSuffix(text[:afterSecond], "#done 2 7365636f6e64 7632\n") || afterSecond <= flushed ||
+		!strings.HasSuffix(text[:afterFirst], "#done 1 6669727374 \n") {
 		t.Fatalf("%q", text)
 	}
 	path := filepath.Join(folder, "cut")

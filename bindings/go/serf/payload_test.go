@@ -71,7 +71,8 @@ func TestPayloadsWithoutBytes(t *testing.T) {
 	}
 	for _, kind := range []string{"event", "query"} {
 		for key, want := range map[string]string{
-			"a %s nil": "true 0", "a %s empty": "false 0", "a %s one": "false 1", "b %s nil": "true 0", "b %s empty": "true 0", "b %s one": "false 1",
+			"a %s nil": "true 0", "a %s empty": "false 0", "a %s one": "false 1", "b %s nil": "true 0", "b %s empty": "true 0",
+			"b %s one": "false 1",
 		} {
 			key = fmt.Sprintf(key, kind)
 			eventually(t, key, func() bool {

@@ -318,7 +318,9 @@ func (s *Serf) stageEvent(event *serfagent.Event, firedPayload []byte) {
 	s.countKeptEvent(event)
 	s.seenTimes.add(event.Time)
 	s.checkForGap(event.Time)
-	delivered := UserEvent{LamportTime(event.Time), s.eventNames.countName(event.Name), payloadOf(event.Payload, firedPayload), event.Coalesce}
+	delivered := UserEvent{
+		LamportTime(event.Time), s.eventNames.countName(event.Name), payloadOf(event.Payload, firedPayload), event.Coalesce,
+	}
 	if s.openEvents != nil {
 		s.openEvents.add(delivered)
 	}
@@ -376,5 +378,8 @@ func (s *Serf) stageQuery(query *serfagent.PendingQuery, firedPayload []byte) {
 		}
 		return
 	}
-	s.staged = append(s.staged, &Query{LTime: LamportTime(query.Time), Name: name, Payload: payloadOf(query.Payload, firedPayload), serf: s, pending: query})
+	s.staged = append(
+		s.staged,
+		&Query{LTime: LamportTime(query.Time), Name: name, Payload: payloadOf(query.Payload, firedPayload), serf: s, pending: query},
+	)
 }

@@ -88,7 +88,10 @@ func TestShouldStopExchanges(t *testing.T) {
 	for _, test := range []struct {
 		fruitless, missing int
 		enough             bool
-	}{{0, 0, false}, {maxFruitlessIfComplete - 1, 0, false}, {maxFruitlessIfComplete, 0, true}, {maxFruitlessIfComplete, 1, false}, {maxFruitless - 1, 9, false}, {maxFruitless, 9, true}} {
+	}{
+		{0, 0, false}, {maxFruitlessIfComplete - 1, 0, false}, {maxFruitlessIfComplete, 0, true}, {maxFruitlessIfComplete, 1, false},
+		{maxFruitless - 1, 9, false}, {maxFruitless, 9, true},
+	} {
 		if shouldStopExchanges(test.fruitless, func() int { return test.missing }) != test.enough {
 			t.Error(test)
 		}

@@ -17,7 +17,8 @@ func TestPingsWhileDiskIsSlow(t *testing.T) {
 	f := &fakeAgent{flushGate: make(chan struct{})}
 	a := startNode(t, "a", "", withAgent(f))
 	other := startNode(t, "b", "", withAgent(&fakeAgent{}), func(o *nodeOptions) {
-		o.MemberlistConfig.ProbeInterval, o.MemberlistConfig.ProbeTimeout, o.MemberlistConfig.TCPTimeout = time.Hour, 20*time.Second, 20*time.Second
+		o.MemberlistConfig.ProbeInterval = time.Hour
+		o.MemberlistConfig.ProbeTimeout, o.MemberlistConfig.TCPTimeout = 20*time.Second, 20*time.Second
 	})
 	a.delegate().NotifyMsg([]byte("\x03\x80"))
 	eventually(t, "the agent flushes", f.isBusy)
@@ -49,7 +50,8 @@ func TestBorrowedBytesAreCopied(t *testing.T) {
 	}
 	close(f.flushGate)
 	eventually(t, "both arrive unchanged", func() bool {
-		return reflect.DeepEqual(a.payloads("fake"), []string{"first", "lent"}) && reflect.DeepEqual(a.payloads("merged"), []string{"\x02lent"})
+		return reflect.DeepEqual(a.payloads("fake"), []string{"first", "lent"}) &&
+			reflect.DeepEqual(a.payloads("merged"), []string{"\x02lent"})
 	})
 	if m, _ := a.members.get("b"); m.Addr.String() != "127.0.0.9" || m.Tags["t"] != "v" {
 		t.Error(m)
@@ -124,7 +126,8 @@ func TestMillionPacketsWithoutReader(t *testing.T) {
 		t.Errorf("the heap grew by %d bytes, and %d packets were dropped", grown, lost)
 	}
 	promptly(t, "what a member does", func() {
-		if err := a.SetTags(map[string]string{"role": "web"}); err != nil || a.LocalMember().Tags["role"] != "web" || len(a.delegate().LocalState(false)) == 0 {
+		if err := a.SetTags(map[string]string{"role": "web"}); err != nil || a.LocalMember().Tags["role"] != "web" ||
+			len(a.delegate().LocalState(false)) == 0 {
 			t.Error(err, a.LocalMember())
 		}
 		check(t, a.Leave())
@@ -183,7 +186,9 @@ type recordingAgent struct {
 // record records an event or a query that the agent hands out.
 func (n *recordingAgent) record(event *serfagent.Event, query *serfagent.PendingQuery) {
 	if event != nil {
-		n.recorded.received = append(n.recorded.received, UserEvent{LTime: LamportTime(event.Time), Name: string(event.Name), Payload: event.Payload})
+		n.recorded.received = append(
+			n.recorded.received, UserEvent{LTime: LamportTime(event.Time), Name: string(event.Name), Payload: event.Payload},
+		)
 	}
 	if query != nil {
 		n.recorded.received = append(n.recorded.received, &Query{LTime: LamportTime(query.Time), Name: string(query.Name)})
@@ -264,7 +269,9 @@ func TestEventsKeepAgentsOrder(t *testing.T) {
 	}
 	for i := uint64(1); i <= 1000; i++ {
 		whole := forgedEvent(i, fmt.Sprint(i))
-		for _, packet := range [][]byte{whole[:1+int(i)%(len(whole)-1)], whole, []byte(malformedPackets[int(i)%len(malformedPackets)]), forgedQuery(i, uint32(i), 0)} {
+		for _, packet := range [][]byte{
+			whole[:1+int(i)%(len(whole)-1)], whole, []byte(malformedPackets[int(i)%len(malformedPackets)]), forgedQuery(i, uint32(i), 0),
+		} {
 			a.delegate().NotifyMsg(packet)
 		}
 		if i%256 == 0 {

@@ -64,7 +64,8 @@ func TestFileChangedFromOutside(t *testing.T) {
 			eventually(t, "the file was checked", func() bool { return a.checkedSize() == textSize(t, path) })
 			must(t, test.change(path))
 			promptly(t, "the node ends", func() { <-a.ShutdownCh() })
-			if err := a.Fault(); !errors.Is(err, ErrSnapshotChanged) || !strings.Contains(err.Error(), test.wantErr) || !strings.Contains(err.Error(), path) {
+			if err := a.Fault(); !errors.Is(err, ErrSnapshotChanged) || !strings.Contains(err.Error(), test.wantErr) ||
+				!strings.Contains(err.Error(), path) {
 				t.Error(err)
 			}
 			if err := a.UserEvent("deploy", []byte("v2"), false); err != ErrEnded {

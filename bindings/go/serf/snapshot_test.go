@@ -48,7 +48,8 @@ func readFile(t *testing.T, path string) string {
 func readText(t *testing.T, path string) string {
 	t.Helper()
 	text := readFile(t, path)
-	if kept := strings.TrimRight(strings.TrimSuffix(text, "\n"), "#"); len(kept)+1 < len(text) && (kept == "" || strings.HasSuffix(kept, "\n")) {
+	if kept := strings.TrimRight(strings.TrimSuffix(text, "\n"), "#"); len(kept)+1 < len(text) &&
+		(kept == "" || strings.HasSuffix(kept, "\n")) {
 		return kept
 	}
 	return text
@@ -219,10 +220,12 @@ func TestSnapshotErrors(t *testing.T) {
 
 func TestIsOldEventMark(t *testing.T) {
 	for text, want := range map[string]bool{
-		"": false, "clock: 3\nalive: a 1:1\n": false, "event-clock: 3\n": true, "clock: 1\n#least event-clock: 9\n": true, "query-clock: 2\n": false, "#event-clock: 3\n": false,
+		"": false, "clock: 3\nalive: a 1:1\n": false, "event-clock: 3\n": true, "clock: 1\n#least event-clock: 9\n": true,
+		"query-clock: 2\n": false, "#event-clock: 3\n": false,
 	} {
 		found := false
-		if err := readLines(strings.NewReader(text), func(line string) { found = found || isOldEventMark(line) }); err != nil || found != want {
+		if err := readLines(strings.NewReader(text), func(line string) { found = found || isOldEventMark(line) }); err != nil ||
+			found != want {
 			t.Errorf("%q %v", text, err)
 		}
 	}

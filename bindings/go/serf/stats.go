@@ -50,13 +50,20 @@ func (s *Serf) countIgnored(received *serfagent.Received) {
 func (s *Serf) Stats() map[string]string {
 	decimal := func(value interface{}) string { return fmt.Sprint(value) }
 	stats := map[string]string{
-		"members": decimal(s.members.size()), "failed": decimal(s.members.count(StatusFailed)), "left": decimal(s.members.count(StatusLeft)),
-		"health_score": decimal(s.memberlist().GetHealthScore()), "encrypted": decimal(s.EncryptionEnabled()),
-		"intent_queue": decimal(s.intents.NumQueued()), "event_queue": decimal(s.events.NumQueued()),
-		"query_queue":  decimal(s.queries.NumQueued()),
-		"dropped":      decimal(s.dropped.Load() + s.droppedFar.Load() + s.droppedKept.Load()),
-		"dropped_kept": decimal(s.droppedKept.Load()), "dropped_far": decimal(s.droppedFar.Load()), "events_waiting": decimal(s.pipe.length()),
-		"events_missing": decimal(s.eventsMissing()), "events_open": decimal(s.openEvents.count()),
+		"members":        decimal(s.members.size()),
+		"failed":         decimal(s.members.count(StatusFailed)),
+		"left":           decimal(s.members.count(StatusLeft)),
+		"health_score":   decimal(s.memberlist().GetHealthScore()),
+		"encrypted":      decimal(s.EncryptionEnabled()),
+		"intent_queue":   decimal(s.intents.NumQueued()),
+		"event_queue":    decimal(s.events.NumQueued()),
+		"query_queue":    decimal(s.queries.NumQueued()),
+		"dropped":        decimal(s.dropped.Load() + s.droppedFar.Load() + s.droppedKept.Load()),
+		"dropped_kept":   decimal(s.droppedKept.Load()),
+		"dropped_far":    decimal(s.droppedFar.Load()),
+		"events_waiting": decimal(s.pipe.length()),
+		"events_missing": decimal(s.eventsMissing()),
+		"events_open":    decimal(s.openEvents.count()),
 	}
 	if s.guard != nil {
 		for reason, count := range s.guard.Drops() {
@@ -67,7 +74,9 @@ func (s *Serf) Stats() map[string]string {
 		stats["ignored_"+reason.name] = decimal(s.ignoredCounts[i].Load())
 	}
 	if clocks, err := s.agent.Clocks(); err == nil {
-		stats["member_time"], stats["event_time"], stats["query_time"] = decimal(clocks.Member), decimal(clocks.Event), decimal(clocks.Query)
+		stats["member_time"] = decimal(clocks.Member)
+		stats["event_time"] = decimal(clocks.Event)
+		stats["query_time"] = decimal(clocks.Query)
 	}
 	if s.coordinates != nil {
 		stats["coordinate_resets"] = decimal(s.coordinates.client.Stats().Resets)

@@ -68,7 +68,9 @@ func (s *Serf) startTracking(time uint64) error {
 // would look open to a later life.
 func (s *Serf) forgetOpenEvents(count int) error {
 	if count > 0 {
-		s.log.Printf("[WARN] serf: %d events that an earlier life was handed and that are not done are forgotten, since TrackHandlers is off", count)
+		s.log.Printf(
+			"[WARN] serf: %d events that an earlier life was handed and that are not done are forgotten, since TrackHandlers is off", count,
+		)
 	}
 	lines := make([]string, 0, len(s.previousNodes))
 	for i := len(s.previousNodes) - 1; i >= 0; i-- {

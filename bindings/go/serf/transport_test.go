@@ -27,7 +27,9 @@ func TestMalformedPacketsAreRefused(t *testing.T) {
 	}
 	eventually(t, "it is counted", func() bool { return a.Stats()["refused_malformed"] == "1" })
 	eventually(t, "it is logged", func() bool {
-		return strings.Contains(logs.String(), "1 packets, streams or parts of them were refused by the guard; by reason since the start: malformed 1")
+		return strings.Contains(
+			logs.String(), "1 packets, streams or parts of them were refused by the guard; by reason since the start: malformed 1",
+		)
 	})
 	check(t, a.UserEvent("x", nil, false))
 }
@@ -54,7 +56,9 @@ func (o *ownTransport) Shutdown() error {
 
 func newOwnTransport(t *testing.T) *ownTransport {
 	t.Helper()
-	inner, err := memberlist.NewNetTransport(&memberlist.NetTransportConfig{BindAddrs: []string{"127.0.0.1"}, Logger: log.New(io.Discard, "", 0)})
+	inner, err := memberlist.NewNetTransport(
+		&memberlist.NetTransportConfig{BindAddrs: []string{"127.0.0.1"}, Logger: log.New(io.Discard, "", 0)},
+	)
 	must(t, err)
 	return &ownTransport{NetTransport: inner}
 }
@@ -177,7 +181,8 @@ func TestJoinOfAFullNode(t *testing.T) {
 	full := startNode(t, "full", "", func(o *nodeOptions) { o.Guard.Members = 2 })
 	second, third := startNode(t, "second", ""), startNode(t, "third", "")
 	second.join(full)
-	if _, err := third.Join([]string{full.address()}, false); err == nil || !strings.Contains(err.Error(), "as many members as its limit allows") {
+	if _, err := third.Join([]string{full.address()}, false); err == nil ||
+		!strings.Contains(err.Error(), "as many members as its limit allows") {
 		t.Error(err)
 	}
 	must(t, second.Shutdown())

@@ -121,7 +121,9 @@ func OpenInMemory(name string, settings Settings) (*Agent, error) {
 
 // open opens an agent on a text. The agent owns the store. If open fails, it closes the store.
 func open(name string, store textStore, text []byte, settings Settings) (*Agent, error) {
-	agent := &Agent{store: store, buffer: make([]byte, bufferBytes), handle: (*C.struct_serf_agent)(C.calloc(1, C.sizeof_struct_serf_agent))}
+	agent := &Agent{
+		store: store, buffer: make([]byte, bufferBytes), handle: (*C.struct_serf_agent)(C.calloc(1, C.sizeof_struct_serf_agent)),
+	}
 	runtime.SetFinalizer(agent, (*Agent).free)
 	cSettings := C.struct_serf_agent_settings{
 		event_buffer:   C.uint64_t(settings.EventBuffer),
@@ -135,7 +137,8 @@ func open(name string, store textStore, text []byte, settings Settings) (*Agent,
 		keep_events:    C.bool(settings.KeepEvents),
 	}
 	nameData := []byte(name)
-	if err := agent.complete(C.serf_agent_open(agent.handle, ptr(nameData), size(nameData), &cSettings, ptr(text), size(text))); err != nil {
+	code := C.serf_agent_open(agent.handle, ptr(nameData), size(nameData), &cSettings, ptr(text), size(text))
+	if err := agent.complete(code); err != nil {
 		agent.Close()
 		if err == BadConfig {
 			err = settings.settingError(name)
@@ -164,7 +167,8 @@ func (a *Agent) free() {
 // the call's error. If the file fails, it closes the agent and returns the file's error.
 func (a *Agent) complete(code C.uint32_t) error {
 	data := a.buffer
-	if C.serf_agent_pending(a.handle, &a.pending, ptr(data), size(data)) != C.SERF_AGENT_OK || (a.pending.len == 0 && !bool(a.pending.replaces)) {
+	if C.serf_agent_pending(a.handle, &a.pending, ptr(data), size(data)) != C.SERF_AGENT_OK ||
+		(a.pending.len == 0 && !bool(a.pending.replaces)) {
 		return errorOf(code)
 	}
 	var err error
@@ -206,7 +210,8 @@ func (a *Agent) event(index int) (*Event, error) {
 	var info C.struct_serf_agent_event
 	name, payload := a.buffer[:nameBytes], a.buffer[nameBytes:]
 	for {
-		if err := errorOf(C.serf_agent_event(a.handle, C.size_t(index), &info, ptr(name), size(name), ptr(payload), size(payload))); err != nil {
+		code := C.serf_agent_event(a.handle, C.size_t(index), &info, ptr(name), size(name), ptr(payload), size(payload))
+		if err := errorOf(code); err != nil {
 			return nil, err
 		}
 		length, payloadLength := int(info.name_len), int(info.payload_len)
@@ -248,7 +253,8 @@ func countedAnswer(packet []byte) (*Answer, error) {
 	// The first call returns the lengths, and the second one the texts.
 	for i := 0; i < 2; i++ {
 		from, payload = make([]byte, info.from_len), make([]byte, info.payload_len)
-		if err := errorOf(C.serf_agent_answer(ptr(packet), size(packet), &info, ptr(from), size(from), ptr(payload), size(payload))); err != nil {
+		code := C.serf_agent_answer(ptr(packet), size(packet), &info, ptr(from), size(from), ptr(payload), size(payload))
+		if err := errorOf(code); err != nil {
 			return nil, err
 		}
 	}
@@ -274,7 +280,9 @@ func (a *Agent) receivedResult(packet []byte) (*Received, error) {
 	if err != nil {
 		return nil, err
 	}
-	received := &Received{Kind: Kind(result.kind), Reason: Reason(result.reason), Rebroadcast: bool(result.rebroadcast), Foreign: uint8(result.foreign)}
+	received := &Received{
+		Kind: Kind(result.kind), Reason: Reason(result.reason), Rebroadcast: bool(result.rebroadcast), Foreign: uint8(result.foreign),
+	}
 	if result.events > 0 {
 		if received.Event, err = a.event(0); err != nil {
 			return nil, err
@@ -378,5 +386,7 @@ func (a *Agent) Clocks() (Clocks, error) {
 	defer a.mu.Unlock()
 	var clocks C.struct_serf_agent_clocks
 	err := errorOf(C.serf_agent_clocks(a.handle, &clocks))
-	return Clocks{uint64(clocks.member), uint64(clocks.event), uint64(clocks.query), uint64(clocks.event_minimum), uint64(clocks.query_minimum)}, err
+	return Clocks{
+		uint64(clocks.member), uint64(clocks.event), uint64(clocks.query), uint64(clocks.event_minimum), uint64(clocks.query_minimum),
+	}, err
 }

@@ -91,7 +91,8 @@ func TestTextsOfEveryLength(t *testing.T) {
 	defer agent.Close()
 	other, _ := openTestAgent(t, "other")
 	for _, lengths := range [][2]int{
-		{0, 0}, {1, 0}, {nameBytes - 1, 1}, {nameBytes, bufferBytes - nameBytes}, {nameBytes + 1, 0}, {3, bufferBytes - nameBytes + 1}, {400, 8700}, {9100, 0}, {0, 9100},
+		{0, 0}, {1, 0}, {nameBytes - 1, 1}, {nameBytes, bufferBytes - nameBytes}, {nameBytes + 1, 0}, {3, bufferBytes - nameBytes + 1},
+		{400, 8700}, {9100, 0}, {0, 9100},
 	} {
 		name, payload := bytes.Repeat([]byte("n"), lengths[0]), bytes.Repeat([]byte("p"), lengths[1])
 		event, packet, err := agent.Fire(name, payload, false)

@@ -34,7 +34,8 @@ func (a *Agent) closedResponse(index, number C.size_t) (from, payload []byte, er
 	// The first call returns the lengths, and the second one the texts.
 	for i := 0; i < 2; i++ {
 		from, payload = make([]byte, info.from_len), make([]byte, info.payload_len)
-		if err = errorOf(C.serf_agent_closed_response(a.handle, index, number, &info, ptr(from), size(from), ptr(payload), size(payload))); err != nil {
+		code := C.serf_agent_closed_response(a.handle, index, number, &info, ptr(from), size(from), ptr(payload), size(payload))
+		if err = errorOf(code); err != nil {
 			return nil, nil, err
 		}
 	}

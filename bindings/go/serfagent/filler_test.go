@@ -50,7 +50,9 @@ func checkFile(t *testing.T, path, text string, filler int) {
 		want += strings.Repeat("#", filler-1) + "\n"
 	}
 	if found := fileText(t, path); found != want {
-		t.Fatalf("%d bytes %q..%q, want %d with %d bytes of filler", len(found), found[:len(found)/2], found[len(found)/2:], len(want), filler)
+		t.Fatalf(
+			"%d bytes %q..%q, want %d with %d bytes of filler", len(found), found[:len(found)/2], found[len(found)/2:], len(want), filler,
+		)
 	}
 }
 

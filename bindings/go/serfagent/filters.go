@@ -48,7 +48,9 @@ func FiltersOf(packet []byte) ([][]byte, error) {
 	for i := 0; i < 2; i++ {
 		// One more, because C needs an address even if there are no filters.
 		lengths, filters = make([]C.size_t, sizes.filters+1), make([]byte, sizes.filters_len)
-		err := errorOf(C.serf_agent_query_filters(ptr(packet), size(packet), &sizes, &lengths[0], C.size_t(len(lengths)-1), ptr(filters), size(filters)))
+		err := errorOf(C.serf_agent_query_filters(
+			ptr(packet), size(packet), &sizes, &lengths[0], C.size_t(len(lengths)-1), ptr(filters), size(filters),
+		))
 		if err == Nothing {
 			return nil, nil
 		}

@@ -17,7 +17,8 @@ func TestTagsPass(t *testing.T) {
 		wantHandedOut [2]bool
 	}{
 		{nil, [2]bool{true, true}}, {[]string{tag}, [2]bool{false, true}}, {[]string{node, tag, tag}, [2]bool{false, true}},
-		{[]string{tag, other}, [2]bool{}}, {[]string{tag, unknown}, [2]bool{}}, {[]string{node}, [2]bool{true, true}}, {[]string{""}, [2]bool{}},
+		{[]string{tag, other}, [2]bool{}}, {[]string{tag, unknown}, [2]bool{}}, {[]string{node}, [2]bool{true, true}},
+		{[]string{""}, [2]bool{}},
 	} {
 		filters := make([][]byte, 0)
 		for _, filter := range test.filters {
@@ -71,9 +72,11 @@ func TestTagsPass(t *testing.T) {
 func TestFilterEncoding(t *testing.T) {
 	long, longer := strings.Repeat("x", 32), strings.Repeat("y", 65536)
 	for want, made := range map[string][]byte{
-		"\x00\x90": FilterByNames(), "\x00\x91\xa4test": FilterByNames("test"), "\x00\x92\xda\x00\x20" + long + "\xdb\x00\x01\x00\x00" + longer: FilterByNames(long, longer),
-		"\x00\xdc\x00\x10" + strings.Repeat("\xa1b", 16): FilterByNames(strings.Split(strings.Repeat("b", 16), "")...),
-		"\x01\x82\xa4Expr\xa0\xa3Tag\xa1a":               FilterByTag("a", ""), "\x01\x82\xa4Expr\xda\x00\x20" + long + "\xa3Tag\xa4role": FilterByTag("role", long),
+		"\x00\x90": FilterByNames(), "\x00\x91\xa4test": FilterByNames("test"),
+		"\x00\x92\xda\x00\x20" + long + "\xdb\x00\x01\x00\x00" + longer: FilterByNames(long, longer),
+		"\x00\xdc\x00\x10" + strings.Repeat("\xa1b", 16):                FilterByNames(strings.Split(strings.Repeat("b", 16), "")...),
+		"\x01\x82\xa4Expr\xa0\xa3Tag\xa1a":                              FilterByTag("a", ""),
+		"\x01\x82\xa4Expr\xda\x00\x20" + long + "\xa3Tag\xa4role":       FilterByTag("role", long),
 	} {
 		if string(made) != want {
 			t.Errorf("%.40q: %.40q", want, made)

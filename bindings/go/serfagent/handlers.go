@@ -51,7 +51,9 @@ func OpenEventsOf(text []byte) (open []OpenEvent, isTracked bool, err error) {
 	for i := 0; i < 2; i++ {
 		// One more, because C needs an address even if there are no events.
 		events, texts = make([]C.struct_serf_agent_open_event, sizes.events+1), make([]byte, sizes.texts_len)
-		err := errorOf(C.serf_agent_open_events(ptr(text), size(text), &sizes, &events[0], C.size_t(len(events)-1), ptr(texts), size(texts)))
+		err := errorOf(C.serf_agent_open_events(
+			ptr(text), size(text), &sizes, &events[0], C.size_t(len(events)-1), ptr(texts), size(texts),
+		))
 		if err != nil {
 			return nil, false, err
 		}

@@ -47,7 +47,9 @@ func (i Intent) Packet() ([]byte, error) {
 		packet = make([]byte, length)
 		var code C.uint32_t
 		if i.Leave {
-			code = C.serf_agent_leave_packet(C.uint64_t(i.Time), ptr(i.Node), size(i.Node), C.bool(i.Prune), &length, ptr(packet), size(packet))
+			code = C.serf_agent_leave_packet(
+				C.uint64_t(i.Time), ptr(i.Node), size(i.Node), C.bool(i.Prune), &length, ptr(packet), size(packet),
+			)
 		} else {
 			code = C.serf_agent_join_packet(C.uint64_t(i.Time), ptr(i.Node), size(i.Node), &length, ptr(packet), size(packet))
 		}

@@ -41,7 +41,8 @@ func longestPacket(t *testing.T, from uint64, call func(payload []byte) ([]byte,
 // The longest packets of queries and of responses are exactly as long as their limits. The default, and 0, is 1,024.
 func TestLimitsOfQueriesAndResponses(t *testing.T) {
 	for _, test := range []struct{ query, response, wantQuery, wantResponse uint64 }{
-		{0, 0, 1024, 1024}, {1024, 1024, 1024, 1024}, {300, 0, 300, 1024}, {0, 300, 1024, 300}, {200, 9216, 200, 9216}, {9216, 200, 9216, 200},
+		{0, 0, 1024, 1024}, {1024, 1024, 1024, 1024}, {300, 0, 300, 1024}, {0, 300, 1024, 300}, {200, 9216, 200, 9216},
+		{9216, 200, 9216, 200},
 	} {
 		agent, err := openLimited(t, test.query, test.response)
 		if err != nil {
@@ -77,7 +78,8 @@ func TestSettingsOutOfBounds(t *testing.T) {
 		return "one", settings
 	}
 	for _, bound := range []SettingError{
-		{"name", 0, 1, 128}, {"EventBuffer", 0, 1, 65536}, {"QueryBuffer", 0, 1, 65536}, {"EventLimit", 9217, 0, 9216}, {"QueryLimit", 9217, 0, 9216},
+		{"name", 0, 1, 128}, {"EventBuffer", 0, 1, 65536}, {"QueryBuffer", 0, 1, 65536}, {"EventLimit", 9217, 0, 9216},
+		{"QueryLimit", 9217, 0, 9216},
 		{"ResponseLimit", math.MaxUint64, 0, 9216}, {"Responders", 0, 1, 65536}, {"PerTime", 0, 1, 65536},
 	} {
 		for _, value := range []uint64{bound.Value, bound.Max + 1} {
@@ -96,7 +98,8 @@ func TestSettingsOutOfBounds(t *testing.T) {
 			agent.Close()
 		}
 	}
-	if _, err := OpenInMemory("one", Settings{KeepEvents: true}); err == nil || err.Error() != "EventBuffer is 0, and must be between 1 and 65536" {
+	if _, err := OpenInMemory("one", Settings{KeepEvents: true}); err == nil ||
+		err.Error() != "EventBuffer is 0, and must be between 1 and 65536" {
 		t.Error(err)
 	}
 	if _, err := OpenInMemory("", Settings{}); err == nil || err.Error() != "the name has 0 bytes, and must have 1 to 128" {

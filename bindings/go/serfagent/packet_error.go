@@ -25,7 +25,8 @@ const (
 )
 
 var packetErrorWords = []string{
-	"None", "Empty", "UnknownType", "Truncated", "Unsupported", "TooDeep", "Trailing", "NotAMap", "BadKey", "Twice", "WrongKind", "OutOfRange", "GreatestTime",
+	"None", "Empty", "UnknownType", "Truncated", "Unsupported", "TooDeep", "Trailing", "NotAMap", "BadKey", "Twice", "WrongKind",
+	"OutOfRange", "GreatestTime",
 }
 
 // String returns the word that traces use for this kind of error (docs/SPEC.md).

@@ -62,11 +62,16 @@ func TestPacketsWithoutError(t *testing.T) {
 // Each kind, reason and error has its word. Other numbers are printed as numbers.
 func TestWords(t *testing.T) {
 	for want, value := range map[string]fmt.Stringer{
-		"NewEvent": NewEvent, "NewQuery": NewQuery, "Ack": Ack, "Response": Response, "Ignored": Ignored, "Foreign": Foreign, "PushPull": PushPull, "Kind 8": Kind(8),
-		"None": Reason(0), "Oversize": Oversize, "BelowMinimum": BelowMinimum, "TooOld": TooOld, "Seen": Seen, "TimeFull": TimeFull, "NotOpen": NotOpen, "OtherId": OtherID,
-		"Closed": AfterDeadline, "AckNotAsked": AckNotRequested, "AckTwice": AckTwice, "ResponseTwice": ResponseTwice, "Reason 12": Reason(12),
-		"Empty": ErrorEmpty, "UnknownType": ErrorUnknownType, "Truncated": ErrorTruncated, "Unsupported": ErrorUnsupported, "TooDeep": ErrorTooDeep, "Trailing": ErrorTrailing,
-		"NotAMap": ErrorNotAMap, "BadKey": ErrorBadKey, "Twice": ErrorTwice, "WrongKind": ErrorWrongKind, "OutOfRange": ErrorOutOfRange, "GreatestTime": ErrorMaxTime, "PacketErrorKind 13": PacketErrorKind(13),
+		"NewEvent": NewEvent, "NewQuery": NewQuery, "Ack": Ack, "Response": Response, "Ignored": Ignored, "Foreign": Foreign,
+		"PushPull": PushPull, "Kind 8": Kind(8),
+		"None": Reason(0), "Oversize": Oversize, "BelowMinimum": BelowMinimum, "TooOld": TooOld, "Seen": Seen, "TimeFull": TimeFull,
+		"NotOpen": NotOpen, "OtherId": OtherID,
+		"Closed": AfterDeadline, "AckNotAsked": AckNotRequested, "AckTwice": AckTwice, "ResponseTwice": ResponseTwice,
+		"Reason 12": Reason(12),
+		"Empty":     ErrorEmpty, "UnknownType": ErrorUnknownType, "Truncated": ErrorTruncated, "Unsupported": ErrorUnsupported,
+		"TooDeep": ErrorTooDeep, "Trailing": ErrorTrailing,
+		"NotAMap": ErrorNotAMap, "BadKey": ErrorBadKey, "Twice": ErrorTwice, "WrongKind": ErrorWrongKind, "OutOfRange": ErrorOutOfRange,
+		"GreatestTime": ErrorMaxTime, "PacketErrorKind 13": PacketErrorKind(13),
 	} {
 		if value.String() != want {
 			t.Errorf("%q: %q", want, value)

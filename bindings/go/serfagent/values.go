@@ -58,7 +58,8 @@ func (s *Settings) settingError(name string) error {
 	const maxCount, maxLength = 1 << 16, 9216
 	for _, setting := range []SettingError{
 		{"name", uint64(len(name)), 1, 128}, {"EventBuffer", s.EventBuffer, 1, maxCount}, {"QueryBuffer", s.QueryBuffer, 1, maxCount},
-		{"EventLimit", s.EventLimit, 0, maxLength}, {"QueryLimit", s.QueryLimit, 0, maxLength}, {"ResponseLimit", s.ResponseLimit, 0, maxLength},
+		{"EventLimit", s.EventLimit, 0, maxLength}, {"QueryLimit", s.QueryLimit, 0, maxLength},
+		{"ResponseLimit", s.ResponseLimit, 0, maxLength},
 		{"Responders", s.Responders, 1, maxCount}, {"PerTime", s.PerTime, 1, maxCount},
 	} {
 		if setting := setting; setting.Value < setting.Min || setting.Value > setting.Max {
@@ -133,7 +134,8 @@ const (
 )
 
 var reasonWords = []string{
-	"None", "Oversize", "BelowMinimum", "TooOld", "Seen", "TimeFull", "NotOpen", "OtherId", "Closed", "AckNotAsked", "AckTwice", "ResponseTwice",
+	"None", "Oversize", "BelowMinimum", "TooOld", "Seen", "TimeFull", "NotOpen", "OtherId", "Closed", "AckNotAsked", "AckTwice",
+	"ResponseTwice",
 }
 
 // String returns the word that traces use for the reason (docs/SPEC.md).

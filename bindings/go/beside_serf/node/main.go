@@ -185,7 +185,8 @@ func start() *node {
 	file, err := os.OpenFile(*handled, os.O_CREATE|os.O_APPEND|os.O_WRONLY, 0o600)
 	check(err)
 	events := make(chan serf.Event)
-	config.EventCh, config.Tags, config.BroadcastTimeout, config.Logger, config.LogOutput = events, tagsOf(*tags), broadcastTimeout, log.Default(), nil
+	config.EventCh, config.Tags, config.BroadcastTimeout = events, tagsOf(*tags), broadcastTimeout
+	config.Logger, config.LogOutput = log.Default(), nil
 	n := &node{name: config.NodeName, handled: file}
 	go n.handle(events)
 	n.Serf, err = serf.Create(config)

@@ -99,11 +99,14 @@ func sendAll(packets [][]byte, to string, handled *atomic.Int64) time.Duration {
 func startNode(path string) (created *serf.Serf, handled *atomic.Int64) {
 	events, handled := make(chan serf.Event, 64), &atomic.Int64{}
 	config := serf.DefaultConfig()
-	config.NodeName, config.EventCh, config.LogOutput, config.SnapshotPath, config.EventBuffer = "node", events, io.Discard, path, eventBuffer
+	config.NodeName, config.EventCh, config.LogOutput = "node", events, io.Discard
+	config.SnapshotPath, config.EventBuffer = path, eventBuffer
 	list := config.MemberlistConfig
 	list.BindAddr, list.BindPort, list.AdvertisePort, list.LogOutput = "127.0.0.1", 0, 0, io.Discard
 	if os.Getenv("SPEED_PLAIN") != "" {
-		plain, err := memberlist.NewNetTransport(&memberlist.NetTransportConfig{BindAddrs: []string{list.BindAddr}, Logger: log.New(io.Discard, "", 0)})
+		plain, err := memberlist.NewNetTransport(
+			&memberlist.NetTransportConfig{BindAddrs: []string{list.BindAddr}, Logger: log.New(io.Discard, "", 0)},
+		)
 		check(err)
 		list.Transport, list.BindPort, list.AdvertisePort = plain, plain.GetAutoBindPort(), plain.GetAutoBindPort()
 	}

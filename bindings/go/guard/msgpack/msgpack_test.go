@@ -8,9 +8,11 @@ import (
 // Skip passes over a value of each form, and fails if it is cut off or nested too deeply.
 func TestSkip(t *testing.T) {
 	for _, value := range []string{
-		"\x07", "\xe0", "\xc0", "\xc2", "\xc3", "\xcc1", "\xcd12", "\xce1234", "\xcf12345678", "\xd01", "\xd112", "\xd21234", "\xd312345678", "\xca1234", "\xcb12345678",
+		"\x07", "\xe0", "\xc0", "\xc2", "\xc3", "\xcc1", "\xcd12", "\xce1234", "\xcf12345678", "\xd01", "\xd112", "\xd21234",
+		"\xd312345678", "\xca1234", "\xcb12345678",
 		"\xa1a", "\xd9\x01a", "\xda\x00\x01a", "\xdb\x00\x00\x00\x01a", "\xc4\x01a", "\xc5\x00\x01a", "\xc6\x00\x00\x00\x01a",
-		"\x90", "\x91\xa1a", "\xdc\x00\x01\xc0", "\xdd\x00\x00\x00\x01\xc0", "\x80", "\x81\xa1a\x91\xc0", "\xde\x00\x01\xa1a\xc0", "\xdf\x00\x00\x00\x01\xa1a\xc0",
+		"\x90", "\x91\xa1a", "\xdc\x00\x01\xc0", "\xdd\x00\x00\x00\x01\xc0", "\x80", "\x81\xa1a\x91\xc0", "\xde\x00\x01\xa1a\xc0",
+		"\xdf\x00\x00\x00\x01\xa1a\xc0",
 		strings.Repeat("\x91", MaxDepth) + "\x05",
 	} {
 		d := &Reader{Data: []byte(value + "\x05")}
@@ -57,13 +59,17 @@ func TestKinds(t *testing.T) {
 		kind Kind
 		n    uint64
 	}{
-		"\xc0": {Nil, 0}, "\xc2": {Flag, 0}, "\xc3": {Flag, 1}, "\x7f": {Number, 127}, "\xd0\x7f": {Number, 127}, "\xd1\x01\x00": {Number, 256},
-		"\xcf\xff\xff\xff\xff\xff\xff\xff\xff": {Number, 1<<64 - 1}, "\xff": {Negative, 0}, "\xe0": {Negative, 0}, "\xd0\x80": {Negative, 0}, "\xd3\x80\x00\x00\x00\x00\x00\x00\x00": {Negative, 0},
-		"\xcb12345678": {Float, 0}, "\xa2": {Text, 2}, "\xd9\x02": {Text, 2}, "\xc4\x02": {Bytes, 2}, "\x93": {Array, 3}, "\xdc\x00\x03": {Array, 3},
-		"\x83": {Map, 3}, "\xdf\x00\x00\x00\x03": {Map, 3}, "\xc1": {Nil, 0}, "\xd4\x00": {Nil, 0},
+		"\xc0": {Nil, 0}, "\xc2": {Flag, 0}, "\xc3": {Flag, 1}, "\x7f": {Number, 127}, "\xd0\x7f": {Number, 127},
+		"\xd1\x01\x00":                         {Number, 256},
+		"\xcf\xff\xff\xff\xff\xff\xff\xff\xff": {Number, 1<<64 - 1}, "\xff": {Negative, 0}, "\xe0": {Negative, 0},
+		"\xd0\x80": {Negative, 0}, "\xd3\x80\x00\x00\x00\x00\x00\x00\x00": {Negative, 0},
+		"\xcb12345678": {Float, 0}, "\xa2": {Text, 2}, "\xd9\x02": {Text, 2}, "\xc4\x02": {Bytes, 2}, "\x93": {Array, 3},
+		"\xdc\x00\x03": {Array, 3},
+		"\x83":         {Map, 3}, "\xdf\x00\x00\x00\x03": {Map, 3}, "\xc1": {Nil, 0}, "\xd4\x00": {Nil, 0},
 	} {
 		d := &Reader{Data: []byte(text)}
-		if kind, n := d.Next(); kind != want.kind || n != want.n || (d.Err != nil) != (text[0] == 0xc1 || text[0] == 0xd4) || d.Err == nil && d.At != len(text) {
+		if kind, n := d.Next(); kind != want.kind || n != want.n || (d.Err != nil) != (text[0] == 0xc1 || text[0] == 0xd4) ||
+			d.Err == nil && d.At != len(text) {
 			t.Errorf("%q: %d %d %v", text, kind, n, d.Err)
 		}
 		first := d.Err

@@ -74,7 +74,8 @@ func (r *run) tryKeys() {
 		key   string
 		nodes int
 	}{
-		{"use-key of no key", one.UseKey, newKey, 2}, {"install-key", one.InstallKey, newKey, 0}, {"install-key again", one.InstallKey, newKey, 0},
+		{"use-key of no key", one.UseKey, newKey, 2}, {"install-key", one.InstallKey, newKey, 0},
+		{"install-key again", one.InstallKey, newKey, 0},
 		{"remove-key of the key in use", one.RemoveKey, oldKey, 2}, {"use-key", one.UseKey, newKey, 0},
 		{"remove-key", one.RemoveKey, oldKey, 0}, {"remove-key again", one.RemoveKey, oldKey, 0},
 	} {

@@ -189,9 +189,13 @@ func (r *run) tryQueries() {
 	tryQuery("query without acks", nil, both, client.QueryParam{})
 	tryQuery("query by a node", []string{"b"}, []string{"b"}, client.QueryParam{RequestAck: true, FilterNodes: []string{"b"}})
 	tryQuery("query by itself", []string{"a"}, []string{"a"}, client.QueryParam{RequestAck: true, FilterNodes: []string{"a", "none"}})
-	tryQuery("query by a tag", []string{"b"}, []string{"b"}, client.QueryParam{RequestAck: true, FilterTags: map[string]string{"role": "d"}})
+	tryQuery(
+		"query by a tag", []string{"b"}, []string{"b"}, client.QueryParam{RequestAck: true, FilterTags: map[string]string{"role": "d"}},
+	)
 	web := map[string]string{"role": "^web$"}
-	tryQuery("query by a node and a tag", []string{"a"}, []string{"a"}, client.QueryParam{RequestAck: true, FilterNodes: both, FilterTags: web})
+	tryQuery(
+		"query by a node and a tag", []string{"a"}, []string{"a"}, client.QueryParam{RequestAck: true, FilterNodes: both, FilterTags: web},
+	)
 	tryQuery("query by no node", nil, nil, client.QueryParam{RequestAck: true, FilterNodes: []string{"none"}})
 	tryQuery("query with relays", both, both, client.QueryParam{RequestAck: true, RelayFactor: 1})
 	r.printFact("query without channels, error", r.a.Query(&client.QueryParam{Name: "quiet", Timeout: time.Second}))

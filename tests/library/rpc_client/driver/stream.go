@@ -135,7 +135,9 @@ func payloadText(payload interface{}) string {
 
 // printRecord waits for the first record of a stream with this name and payload, and prints its fields.
 func (r *run) printRecord(filter, name string, payload []byte) {
-	found := r.streams[filter].waitForRecord(func(one record) bool { return one["Name"] == name && payloadText(one["Payload"]) == string(payload) })
+	found := r.streams[filter].waitForRecord(
+		func(one record) bool { return one["Name"] == name && payloadText(one["Payload"]) == string(payload) },
+	)
 	what := fmt.Sprintf("stream of %s, %s %.8q", filter, name, payload)
 	if found == nil {
 		r.printFact(what, "it never came")

@@ -285,7 +285,9 @@ func (c *cluster) checkMembers(healed time.Time, isRight func(n *node, status se
 				}
 			}
 			if !isRight(n, status) {
-				c.ledger.violate("members", "n%d.%d sees n%d as %s %v after the last failure", l.node.number, l.number, n.number, status, since)
+				c.ledger.violate(
+					"members", "n%d.%d sees n%d as %s %v after the last failure", l.node.number, l.number, n.number, status, since,
+				)
 			}
 		}
 	}

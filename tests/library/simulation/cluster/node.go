@@ -341,7 +341,9 @@ func (l *life) checkFlushed(delivered delivery) {
 	settings := l.node.cluster.plan.settings
 	for _, text := range l.disk.FlushedTexts(snapshot(l.disk)) {
 		if !isFlushed(text, delivered, settings.keepsEvents, settings.eventBuffer) {
-			l.node.cluster.ledger.violate("flushed", "n%d.%d handed out %s before its line was on the disk", l.node.number, l.number, delivered)
+			l.node.cluster.ledger.violate(
+				"flushed", "n%d.%d handed out %s before its line was on the disk", l.node.number, l.number, delivered,
+			)
 			return
 		}
 	}

@@ -163,7 +163,9 @@ func (d *Disk) AfterKill(root string) *Disk {
 		next.flushedNames[next.pathOnThisDisk(d, name)] = copyOf(file)
 	}
 	for _, changed := range d.changes {
-		next.changes = append(next.changes, change{next.pathOnThisDisk(d, changed.path), copyOf(changed.file), next.pathOnThisDisk(d, changed.earlier)})
+		next.changes = append(
+			next.changes, change{next.pathOnThisDisk(d, changed.path), copyOf(changed.file), next.pathOnThisDisk(d, changed.earlier)},
+		)
 	}
 	return next
 }
