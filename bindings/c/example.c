@@ -116,7 +116,8 @@ static void join(struct node *joiner, struct node *other) {
 
 /* Fires an event, and returns the length of its packet. */
 static size_t fire(struct node *node, const char *name, const char *payload, uint8_t packet[PACKET_ROOM]) {
-    finish_call(node, "fire", serf_agent_fire(&node->agent, (const uint8_t *)name, strlen(name), (const uint8_t *)payload, strlen(payload), false));
+    const uint8_t *name_bytes = (const uint8_t *)name, *payload_bytes = (const uint8_t *)payload;
+    finish_call(node, "fire", serf_agent_fire(&node->agent, name_bytes, strlen(name), payload_bytes, strlen(payload), false));
     handle_events(node);
     return packet_of(node, packet);
 }
@@ -138,7 +139,8 @@ static void ask(struct node *querier, struct node *answerer, uint64_t now, const
     struct serf_agent_params params = {.timeout = 1000, .want_ack = true};
     struct serf_agent_result result;
     size_t len;
-    finish_call(querier, "query", serf_agent_query(&querier->agent, now, 7, (const uint8_t *)name, strlen(name), NULL, 0, NULL, 0, &params));
+    const uint8_t *name_bytes = (const uint8_t *)name;
+    finish_call(querier, "query", serf_agent_query(&querier->agent, now, 7, name_bytes, strlen(name), NULL, 0, NULL, 0, &params));
     len = packet_of(querier, packet);
     deliver(answerer, now, packet, len);
     finish_call(answerer, "result", serf_agent_result(&answerer->agent, &result));
@@ -160,8 +162,10 @@ static void close_due(struct node *node, uint64_t now) {
         for (size_t j = 0; serf_agent_closed_ack(&node->agent, i, j, &len, from, sizeof from) == SERF_AGENT_OK; j++) {
             printf("%.*s acked the query of %s\n", (int)len, from, node->name);
         }
-        for (size_t j = 0; serf_agent_closed_response(&node->agent, i, j, &response, from, sizeof from, payload, sizeof payload) == SERF_AGENT_OK; j++) {
+        size_t j = 0;
+        while (serf_agent_closed_response(&node->agent, i, j, &response, from, sizeof from, payload, sizeof payload) == SERF_AGENT_OK) {
             printf("%.*s answered %.*s\n", (int)response.from_len, from, (int)response.payload_len, payload);
+            j++;
         }
     }
 }

@@ -56,7 +56,8 @@ static void write_given(const struct serf_agent_result *result) {
         put(one, event.name_len, "");
         put(two, event.payload_len, event.coalesce ? " 1\n" : " 0\n");
     }
-    if (result->handed != 0 && serf_agent_pending_query(&agent, result->handed, &query, one, ROOM, two, ROOM, NULL, 0, NULL, 0) == SERF_AGENT_OK) {
+    if (result->handed != 0 &&
+        serf_agent_pending_query(&agent, result->handed, &query, one, ROOM, two, ROOM, NULL, 0, NULL, 0) == SERF_AGENT_OK) {
         printf("handed %llu %llu %u", (number)result->handed - 1, (number)query.time, query.id);
         put(one, query.name_len, "");
         put(two, query.payload_len, "\n");

@@ -1,7 +1,7 @@
 #!/bin/sh
-# tests/library/agent/install.sh PACKAGE.deb: installs the package by apt, upgrades it, removes it and purges it, with its own scripts, in a
-# copy of this system that exists as long as this script runs: an overlay in a separate mount namespace. Nothing outside it is written. It prints a
-# line for each check, `pass WHAT` or `fail WHAT`, and `unable` where this system has no such namespaces.
+# tests/library/agent/install.sh PACKAGE.deb: installs the package by apt, upgrades it, removes it and purges it, with its own scripts,
+# in a copy of this system that exists as long as this script runs: an overlay in a separate mount namespace. Nothing outside it is
+# written. It prints a line for each check, `pass WHAT` or `fail WHAT`, and `unable` if this system has no such namespaces.
 #
 # There is no systemd in it. If the package's scripts call it, they call two programs of this script, which record the arguments.
 set -u
@@ -38,7 +38,8 @@ own=/var/lib/kitchenrue-agent unit=kitchenrue-agent.service
 # An agent as its unit starts it: until it runs, and then SIGTERM; its status has to be this.
 runs() {
     chroot "$root" setpriv --reuid kitchenrue-agent --regid kitchenrue-agent --init-groups timeout 60 sh -c "cd $own && exec \
-        /usr/bin/kitchenrue-agent -config-dir /etc/kitchenrue-agent -bind 127.0.0.1:0 -rpc-addr 127.0.0.1:0 -event-handler 'member-join=kill -TERM \$PPID'" \
+        /usr/bin/kitchenrue-agent -config-dir /etc/kitchenrue-agent -bind 127.0.0.1:0 -rpc-addr 127.0.0.1:0 \
+        -event-handler 'member-join=kill -TERM \$PPID'" \
         </dev/null >"$said" 2>&1
     [ $? -eq "$1" ] && grep -q -e "$2" "$said"
 }

@@ -190,7 +190,8 @@ static void numbers_of_queries(void) {
     for (size_t i = 0; i < sizeof wrong / sizeof *wrong; i++) {
         if (wrong[i] != result.handed) {
             is("a wrong number", serf_agent_respond(&agent, 6, wrong[i], NULL, 0), SERF_AGENT_NOT_PENDING);
-            is("a wrong number", serf_agent_pending_query(&agent, wrong[i], &handed, NULL, 0, NULL, 0, NULL, 0, NULL, 0), SERF_AGENT_NOT_PENDING);
+            is("a wrong number", serf_agent_pending_query(&agent, wrong[i], &handed, NULL, 0, NULL, 0, NULL, 0, NULL, 0),
+           SERF_AGENT_NOT_PENDING);
         }
     }
     is("too late", serf_agent_respond(&agent, 1006, result.handed, NULL, 0), SERF_AGENT_PAST_DEADLINE);
@@ -353,7 +354,8 @@ static void closings(void) {
     is("open", opened(&agent, "a", ""), SERF_AGENT_OK);
     asked_and_closed(&agent);
     is("closed", serf_agent_closed(&agent, 0, &closed), SERF_AGENT_OK);
-    is("what it was", (uint32_t)(closed.time == 1 && closed.deadline == 1005 && closed.id == 7 && closed.acks == 1 && closed.responses == 1), 1);
+    is("what it was",
+       (uint32_t)(closed.time == 1 && closed.deadline == 1005 && closed.id == 7 && closed.acks == 1 && closed.responses == 1), 1);
     for (size_t i = 0; i < sizeof wrong / sizeof *wrong; i++) {
         is("a wrong index", serf_agent_closed(&agent, wrong[i], &closed), SERF_AGENT_NOTHING);
         is("a wrong index", serf_agent_closed_ack(&agent, wrong[i], 0, &len, NULL, 0), SERF_AGENT_NOTHING);
@@ -452,7 +454,8 @@ static void any_bytes(int count) {
         struct serf_agent_packet_error fault = {0};
         serf_agent_answer(own, len, &said, room, 8, room, 8);
         bool has_one = serf_agent_packet_error(own, len, &fault) == SERF_AGENT_OK;
-        uint32_t code = drawn() % 4 ? serf_agent_receive(&agent, drawn() % 4, own, len, false) : serf_agent_merge(&agent, own, len, drawn() % 2);
+        uint32_t code = drawn() % 4 ? serf_agent_receive(&agent, drawn() % 4, own, len, false)
+                                    : serf_agent_merge(&agent, own, len, drawn() % 2);
         free(own);
         written(&agent);
         unknown += code > SERF_AGENT_NOT_PENDING || serf_agent_result(&agent, &result) != SERF_AGENT_OK;

@@ -175,7 +175,8 @@ static void mixed(const struct packet *events) {
     none_next(&agent, SERF_AGENT_PENDING);
     is("and one more", fire(&agent, "y"), SERF_AGENT_OK);
     pending_length(&agent);
-    is("the whole text", strstr((char *)room, "event-clock: 3\n") != NULL && strstr((char *)room, "event-clock: 4\n") > strstr((char *)room, "event-clock: 3\n"), 1);
+    const char *third = strstr((char *)room, "event-clock: 3\n"), *fourth = strstr((char *)room, "event-clock: 4\n");
+    is("the whole text", third != NULL && fourth > third, 1);
     is("flushed", serf_agent_flushed(&agent), SERF_AGENT_OK);
     is("a query waits on", serf_agent_respond(&agent, 5, 2, NULL, 0), SERF_AGENT_OK);
     next(&agent, SERF_AGENT_OK, SERF_AGENT_RESULT_EVENT_FIRED);
@@ -197,7 +198,8 @@ static void nothing_to_write(const struct packet *events) {
     is("clocks", serf_agent_clocks(&agent, &before), SERF_AGENT_OK);
     is("an old event", serf_agent_burst_receive(&agent, 1, events[0].bytes, events[0].len, false), SERF_AGENT_OK);
     is("a cut one", serf_agent_burst_receive(&agent, 1, events[0].bytes, events[0].len - 1, false), SERF_AGENT_NO_MESSAGE);
-    is("no time is one", serf_agent_burst_receive(&agent, 1, (const uint8_t *)"\003\201\245LTime\317\377\377\377\377\377\377\377\377", 16, false), SERF_AGENT_NO_MESSAGE);
+    const uint8_t *no_time = (const uint8_t *)"\003\201\245LTime\317\377\377\377\377\377\377\377\377";
+    is("no time is one", serf_agent_burst_receive(&agent, 1, no_time, 16, false), SERF_AGENT_NO_MESSAGE);
     is("nothing is pending", pending_length(&agent), 0);
     next(&agent, SERF_AGENT_OK, SERF_AGENT_RESULT_IGNORED);
     next(&agent, SERF_AGENT_NO_MESSAGE, SERF_AGENT_RESULT_NOTHING);

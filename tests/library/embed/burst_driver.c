@@ -74,7 +74,8 @@ static void put_query(struct node *node, const struct serf_agent_result *result)
     uint8_t name[64];
     bool is_acked = serf_agent_ack(&node->agent, &own_ack.len, own_ack.bytes, sizeof own_ack.bytes) == SERF_AGENT_OK;
     if (result->handed != 0) {
-        demand(serf_agent_pending_query(&node->agent, result->handed, &handed, name, sizeof name, NULL, 0, NULL, 0, NULL, 0) == SERF_AGENT_OK, "handed");
+        uint32_t code = serf_agent_pending_query(&node->agent, result->handed, &handed, name, sizeof name, NULL, 0, NULL, 0, NULL, 0);
+        demand(code == SERF_AGENT_OK, "handed");
         printf(" %llu %.*s handed", (unsigned long long)handed.time, (int)handed.name_len, name);
         node->handed = result->handed;
     }

@@ -169,7 +169,8 @@ static void members(void) {
     is("all", serf_agent_state_members(state, len, &all, named, 6, room, sizeof room), SERF_AGENT_OK);
     const struct serf_agent_member wanted[5] = {{7, 1, false}, {0, 0, false}, {9, 1, false}, {0, 4, true}, {0, 0, true}};
     for (int i = 0; i < 5; i++) {
-        holds("a member", named[i].status_time == wanted[i].status_time && named[i].name_len == wanted[i].name_len && named[i].left == wanted[i].left);
+        holds("a member", named[i].status_time == wanted[i].status_time && named[i].name_len == wanted[i].name_len &&
+                              named[i].left == wanted[i].left);
     }
     holds("their names", memcmp(room, "bbgone", 6) == 0 && named[5].name_len > 5);
     is("a state of none", serf_agent_state_members(BYTES("\x02\x80"), &all, named, 6, room, sizeof room), SERF_AGENT_OK);
@@ -296,7 +297,8 @@ static void filters(void) {
     granted = -1;
     is("memory ran out, and then there was enough", code, SERF_AGENT_OK);
     holds("two requests at least", requests > 2 && all.filters == 3);
-    is("a query of none", serf_agent_query_filters(packet, query_of("", packet, sizeof packet), &all, lens, 4, room, sizeof room), SERF_AGENT_OK);
+    is("a query of none", serf_agent_query_filters(packet, query_of("", packet, sizeof packet), &all, lens, 4, room, sizeof room),
+       SERF_AGENT_OK);
     holds("of none", all.filters == 0 && all.filters_len == 0);
 }
 

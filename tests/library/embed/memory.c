@@ -3,7 +3,8 @@
  * accepted before: all its tries together hand out what one with memory does, and leave its lines. A repeat needs none. All of it
  * once more with an agent that keeps its events, and whose opening has some to restore.
  *
- * Linked with malloc, realloc and free wrapped: after all agents are closed, all memory has been freed. Prints `FAILED ..` for each that doesn't hold, and `N passed, M failed`. */
+ * Linked with malloc, realloc and free wrapped: after all agents are closed, all memory has been freed. Prints `FAILED ..` for each that
+ * doesn't hold, and `N passed, M failed`. */
 #include "serf_agent.h"
 
 #include <stdio.h>
@@ -176,12 +177,15 @@ static void settle(struct serf_agent *agent, struct observed *seen) {
 /* The same, and appends what a try of a call left to what was left before. */
 static void append_output(struct serf_agent *agent, struct observed *seen, struct output *output) {
     settle(agent, seen);
-    snprintf(output->lines + strlen(output->lines), sizeof output->lines - strlen(output->lines), "%.*s", (int)seen->about.len, seen->pending);
+    size_t lines = strlen(output->lines);
+    snprintf(output->lines + lines, sizeof output->lines - lines, "%.*s", (int)seen->about.len, seen->pending);
     for (size_t i = 0; i < seen->result.events; i++) {
         struct serf_agent_event event;
         uint8_t name[64] = {0}, payload[64] = {0};
         serf_agent_event(agent, i, &event, name, sizeof name - 1, payload, sizeof payload - 1);
-        snprintf(output->events + strlen(output->events), sizeof output->events - strlen(output->events), "%llu %s %s\n", (unsigned long long)event.time, name, payload);
+        size_t events = strlen(output->events);
+        snprintf(output->events + events, sizeof output->events - events, "%llu %s %s\n", (unsigned long long)event.time, name,
+                 payload);
         output->latest = event.time > output->latest ? event.time : output->latest;
     }
 }
@@ -265,7 +269,8 @@ static void try_step(size_t number, struct serf_agent *agent, struct serf_agent 
         append_output(agent, &after, &output);
         if (code == SERF_AGENT_OUT_OF_MEMORY) {
             with_events += after.result.events > 0;
-            holds(steps[number].name, tried, is_merge(number) ? is_complete(&before, &after, &output) : is_as_before(number, &before, &after));
+            holds(steps[number].name, tried,
+                  is_merge(number) ? is_complete(&before, &after, &output) : is_as_before(number, &before, &after));
             before = after;
         }
     }
@@ -273,7 +278,8 @@ static void try_step(size_t number, struct serf_agent *agent, struct serf_agent 
     append_output(twin, &wanted, &expected);
     holds(steps[number].name, tried, code == SERF_AGENT_OK && other == code);
     /* (of a merge all tries together) */
-    holds(steps[number].name, tried, is_merge(number) ? is_same(&after.clocks, &wanted.clocks, sizeof after.clocks) : is_same(&after, &wanted, sizeof after));
+    holds(steps[number].name, tried,
+                  is_merge(number) ? is_same(&after.clocks, &wanted.clocks, sizeof after.clocks) : is_same(&after, &wanted, sizeof after));
     holds(steps[number].name, tried, is_same(&output, &expected, sizeof output));
     if (steps[number].call == merge_more) {
         holds("a merge without memory hands out events", tried, with_events > 0);

@@ -61,7 +61,8 @@ static uint32_t stays(const void *bytes, size_t from, size_t len) {
 
 static void is_event(size_t at, uint64_t time, size_t name_len, size_t payload_len, bool begun) {
     const struct serf_agent_open_event *event = &events[at];
-    is("an open event", event->time == time && event->name_len == name_len && event->payload_len == payload_len && event->begun == begun, 1);
+    is("an open event",
+       event->time == time && event->name_len == name_len && event->payload_len == payload_len && event->begun == begun, 1);
 }
 
 static void reads(void) {

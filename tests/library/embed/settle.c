@@ -87,7 +87,8 @@ static void reads(const char *folder, const char *text) {
     max_len = 4;
     holds("a text that is read piece by piece", has(text));
     for (end = 0; end < strlen(text); end++) {
-        holds("a file that became shorter", serf_agent_store_read(&store, &found, &len) == SERF_AGENT_STORE_FAILED && found == NULL && len == 0);
+        holds("a file that became shorter",
+          serf_agent_store_read(&store, &found, &len) == SERF_AGENT_STORE_FAILED && found == NULL && len == 0);
     }
     holds("a file that did not", has(text));
     max_len = end = 4096;

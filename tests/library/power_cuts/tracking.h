@@ -17,14 +17,16 @@ enum serf_agent_store_error tracking_start(struct serf_agent_store *store, struc
 /* Adds an event that is handed out to the open ones. */
 void tracking_hand_out(uint64_t time, const uint8_t *name, size_t len);
 
-/* Begins the handler of the first event that waits, after the flush of its line; ends the handler that began first. Nothing, if there is none. */
+/* Begins the handler of the first event that waits, after the flush of its line; ends the handler that began first. Nothing, if there
+ * is none. */
 enum serf_agent_store_error tracking_begin(struct serf_agent_store *store, print_event print);
 void tracking_end(print_event print);
 
 /* Does what serf_agent_compact does. The agent's clocks can't be read while its bytes are pending, so it reads them before. */
 uint32_t tracking_compact(struct serf_agent *agent);
 
-/* Does what serf_agent_store_settle does, with the lines about handlers before the agent's bytes, or after those that replace the file's. */
+/* Does what serf_agent_store_settle does, with the lines about handlers before the agent's bytes, or after those that replace the
+ * file's. */
 enum serf_agent_store_error tracking_settle(struct serf_agent_store *store, struct serf_agent *agent);
 
 #endif
