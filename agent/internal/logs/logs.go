@@ -104,7 +104,7 @@ func New(out io.Writer, level Level) *Log {
 	return l
 }
 
-// SetLevel changes the level of the lines that are written.
+// SetLevel sets the lowest level of the lines that are written.
 func (l *Log) SetLevel(level Level) {
 	l.mu.Lock()
 	defer l.mu.Unlock()

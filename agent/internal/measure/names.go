@@ -95,7 +95,8 @@ func isInvoke(words []string) bool {
 	return len(words) == 3 && words[0] == "agent" && words[1] == "invoke"
 }
 
-// nameLabel adds a label for a name from the network, so that it can't be another metric's name.
+// nameLabel adds a label with the event's or the query's name to its metric. A name from the network is never part of a metric's
+// name, so it can't collide with that of another metric.
 func nameLabel(words []string, labels []metrics.Label) []metrics.Label {
 	if isByName(words) {
 		return append([]metrics.Label{{Name: "name", Value: words[2]}}, labels...)

@@ -117,7 +117,7 @@ func writeTotals(to io.Writer, all []total) {
 	}
 }
 
-// page is the page for Prometheus.
+// page serves the metrics in Prometheus's format.
 type page struct {
 	totals   *totals
 	listener net.Listener

@@ -12,8 +12,8 @@ type Reason uint8
 // These are the reasons for which the guard drops a packet, a part of a packet, a stream or an entry of a push/pull.
 const (
 	none Reason = iota
-	// TooLong: a packet or a stream with more bytes than its bound. Inflated: one that exceeds the bound after
-	// decompression.
+	// TooLong: a packet or a stream with more bytes than its bound. Inflated: a packet or a stream whose content, after
+	// decompression, has more bytes than the bound.
 	TooLong
 	Inflated
 	// Empty: no bytes, although memberlist would read the first one.

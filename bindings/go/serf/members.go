@@ -417,7 +417,7 @@ func (l *memberList) ownMember() Member {
 	return l.forgottenSelf
 }
 
-// get returns the member with a name. ok is false if there is none.
+// get returns the member with this name. ok is false if there is none.
 func (l *memberList) get(name string) (Member, bool) {
 	l.mu.Lock()
 	defer l.mu.Unlock()

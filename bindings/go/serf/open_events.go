@@ -240,7 +240,8 @@ func (o *openEvents) areDoneUpTo(time LamportTime) bool {
 	return true
 }
 
-// waitingLines is takeLines with mu not held. It returns nothing if the node does not track handlers.
+// waitingLines does what takeLines does, but the caller does not hold mu. It returns nothing if the node does not track
+// handlers.
 func (o *openEvents) waitingLines() []byte {
 	if o == nil {
 		return nil

@@ -24,7 +24,7 @@ import (
 	"kitchenrue.example/serfagent"
 )
 
-// endGrace is how long after Shutdown the program may still receive the events that were handed out from EventCh.
+// endGrace is for how long after Shutdown the program may still receive events from EventCh that were handed out before.
 const endGrace = 500 * time.Millisecond
 
 // gossipOverhead is how many bytes of a datagram memberlist needs in addition to one gossiped packet: two for the

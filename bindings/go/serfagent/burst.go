@@ -205,8 +205,8 @@ func leadingFirings(calls []burstCall) []burstCall {
 	return calls
 }
 
-// firingBatch holds firings that C makes, and then reads, in one call each. That saves time, since a call from Go to C
-// takes longer than firing an event.
+// firingBatch holds firings for which Go calls C only twice: one call fires all events, and another one reads all outcomes. That
+// saves time, since a call from Go to C takes longer than firing an event.
 type firingBatch struct {
 	firings []C.struct_firing
 	texts   []byte
