@@ -77,7 +77,7 @@ func (c *cutTransport) DialAddressTimeout(addr memberlist.Address, timeout time.
 	return c.DialTimeout(addr.Addr, timeout)
 }
 
-// cutStream is a stream of a cutTransport. If it is still open when the transport is cut off, nothing more leaves by it.
+// cutStream is a stream of a cutTransport. If it is still open when the transport is cut off, nothing more is sent over it.
 type cutStream struct {
 	net.Conn
 	transport *cutTransport

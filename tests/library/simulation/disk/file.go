@@ -342,7 +342,7 @@ func (f *File) SyscallConn() (syscall.RawConn, error) {
 	return rawFile{f}, nil
 }
 
-// rawFile has the number of a file.
+// rawFile is the syscall.RawConn of a file: it passes on the number of the file, and nothing else.
 type rawFile struct{ file *File }
 
 func (r rawFile) Control(call func(number uintptr)) error {
