@@ -13,7 +13,7 @@ import (
 	"github.com/hashicorp/memberlist"
 )
 
-var errCut = errors.New("the network is cut")
+var errNetworkCut = errors.New("the network is cut")
 
 // cutTransport is a transport that a test can cut off. It then neither sends nor accepts anything.
 type cutTransport struct {
@@ -64,7 +64,7 @@ func (c *cutTransport) WriteToAddress(b []byte, addr memberlist.Address) (time.T
 
 func (c *cutTransport) DialTimeout(addr string, timeout time.Duration) (net.Conn, error) {
 	if c.isCut.Load() {
-		return nil, errCut
+		return nil, errNetworkCut
 	}
 	stream, err := c.NetTransport.DialTimeout(addr, timeout)
 	if err != nil {
@@ -85,7 +85,7 @@ type cutStream struct {
 
 func (c cutStream) Write(b []byte) (int, error) {
 	if c.transport.isCut.Load() {
-		return 0, errCut
+		return 0, errNetworkCut
 	}
 	return c.Conn.Write(b)
 }
