@@ -42,6 +42,9 @@ func (l *lines) bytes(data []byte) *lines {
 	return l
 }
 
+// name appends a name in hex.
+func (l *lines) name(name string) *lines { return l.bytes([]byte(name)) }
+
 func (l *lines) boolean(value bool) *lines {
 	if value {
 		return l.word("1")
@@ -67,14 +70,14 @@ func (l *lines) writeSent(packet []byte) {
 // writeEvent writes the line of an event that is handed out, if there is one.
 func (l *lines) writeEvent(event *serfagent.Event) {
 	if event != nil {
-		l.line("event").number(event.Time).bytes(event.Name).bytes(event.Payload).boolean(event.Coalesce)
+		l.line("event").number(event.Time).name(event.Name).bytes(event.Payload).boolean(event.Coalesce)
 	}
 }
 
 // writeHanded writes the line of a query that is handed out, if there is one. number is its number in this life.
 func (l *lines) writeHanded(query *serfagent.PendingQuery, number uint64) {
 	if query != nil {
-		l.line("handed").number(number).number(query.Time).number(uint64(query.ID)).bytes(query.Name).bytes(query.Payload)
+		l.line("handed").number(number).number(query.Time).number(uint64(query.ID)).name(query.Name).bytes(query.Payload)
 	}
 }
 
@@ -100,7 +103,7 @@ func (l *lines) writeOpen(name string, settings serfagent.Settings, text []byte,
 	if settings.KeepEvents {
 		mode += "+events"
 	}
-	l.line("open").bytes([]byte(name)).number(settings.EventBuffer).number(settings.QueryBuffer).number(settings.EventLimit)
+	l.line("open").name(name).number(settings.EventBuffer).number(settings.QueryBuffer).number(settings.EventLimit)
 	l.number(settings.Responders).word(mode).number(settings.PerTime)
 	defaults := serfagent.DefaultSettings()
 	if settings.QueryLimit != defaults.QueryLimit || settings.ResponseLimit != defaults.ResponseLimit {
@@ -123,10 +126,10 @@ func (l *lines) writeReceived(packet []byte, outcome serfagent.Outcome, number u
 	case serfagent.NewQuery:
 		l.line("query")
 	case serfagent.Ack:
-		l.line("ack").line("counted ack").number(received.Answer.Time).number(uint64(received.Answer.ID)).bytes(received.Answer.From)
+		l.line("ack").line("counted ack").number(received.Answer.Time).number(uint64(received.Answer.ID)).name(received.Answer.From)
 	case serfagent.Response:
 		l.line("response").line("counted response").number(received.Answer.Time).number(uint64(received.Answer.ID))
-		l.bytes(received.Answer.From).bytes(received.Answer.Payload)
+		l.name(received.Answer.From).bytes(received.Answer.Payload)
 	case serfagent.Ignored:
 		l.line("ignored").word(received.Reason.String())
 	case serfagent.Foreign:

@@ -180,7 +180,7 @@ func (a *Agent) writeDelivery(l *lines, now uint64, packet serf.Packet, outcome 
 
 // writeFiring writes a firing and its result.
 func (a *Agent) writeFiring(l *lines, firing serf.Firing, outcome serfagent.Outcome) {
-	l.line("fire").bytes(firing.Name).bytes(firing.Payload).boolean(firing.Coalesce)
+	l.line("fire").name(firing.Name).bytes(firing.Payload).boolean(firing.Coalesce)
 	a.writeReply(l, outcome.Err, nil, func() {
 		l.line("fired").number(outcome.Fired.Event.Time).writeSent(outcome.Fired.Packet)
 		l.writeEvent(outcome.Fired.Event)
@@ -235,7 +235,7 @@ func (a *Agent) LocalState(statuses []serfagent.Status, left []string) ([]byte, 
 }
 
 // Query records a query. Like a received one, it is written without its tag filters if this node passes them.
-func (a *Agent) Query(now uint64, id uint32, name, payload []byte, params serfagent.QueryParams) (*serfagent.FiredQuery, error) {
+func (a *Agent) Query(now uint64, id uint32, name string, payload []byte, params serfagent.QueryParams) (*serfagent.FiredQuery, error) {
 	a.mu.Lock()
 	defer a.mu.Unlock()
 	query, err := a.Agent.Query(now, id, name, payload, params)
@@ -247,7 +247,7 @@ func (a *Agent) Query(now uint64, id uint32, name, payload []byte, params serfag
 		flags |= 2
 	}
 	a.write(func(l *lines) {
-		l.line("query").number(now).number(uint64(id)).bytes(name).bytes(payload).number(uint64(params.Timeout)).number(flags)
+		l.line("query").number(now).number(uint64(id)).name(name).bytes(payload).number(uint64(params.Timeout)).number(flags)
 		for _, filter := range params.Filters {
 			if !params.TagsPass || !serf.IsTagFilter(filter) {
 				l.bytes(filter)

@@ -56,7 +56,7 @@ func TestLimitsOfPackets(t *testing.T) {
 
 // fireEvent fires an event, and returns its packet.
 func fireEvent(a *Agent, name, payload string, coalesce bool) ([]byte, error) {
-	outcomes, err := a.TakeAll(0, nil, []serf.Firing{{Name: []byte(name), Payload: []byte(payload), Coalesce: coalesce}})
+	outcomes, err := a.TakeAll(0, nil, []serf.Firing{{Name: name, Payload: []byte(payload), Coalesce: coalesce}})
 	if err != nil {
 		return nil, err
 	}
@@ -90,7 +90,7 @@ func TestCallsAndReplies(t *testing.T) {
 	a, b := openRecorded(t, "a", folder, 1<<20, noLog), openRecorded(t, "b", folder, 1<<20, noLog)
 	fired, err := fireEvent(a, "deploy", "v1", false)
 	testkit.Must(t, err)
-	query, err := a.Query(5, 7, []byte("load"), nil, serfagent.QueryParams{Timeout: 1000, WantAck: true})
+	query, err := a.Query(5, 7, "load", nil, serfagent.QueryParams{Timeout: 1000, WantAck: true})
 	testkit.Must(t, err)
 	outcomes, err := receivePackets(b, 9, fired, fired, query.Packet, []byte{}, []byte("\x03\x81\xa4Name\xa1"), []byte{9})
 	if err != nil || len(outcomes) != 6 {
@@ -146,7 +146,7 @@ func TestForgottenQueries(t *testing.T) {
 	a := openRecorded(t, "a", folder, 1<<20, noLog)
 	var numbers []uint64
 	for _, timeout := range []time.Duration{10, 10, 1000} {
-		query, err := a.Query(5, 7, []byte("load"), nil, serfagent.QueryParams{Timeout: timeout})
+		query, err := a.Query(5, 7, "load", nil, serfagent.QueryParams{Timeout: timeout})
 		if err != nil {
 			t.Fatal(err)
 		}

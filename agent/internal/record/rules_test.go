@@ -15,7 +15,7 @@ import (
 func TestFiringsOfABurstKeepTheirOrder(t *testing.T) {
 	folder := t.TempDir()
 	a := openRecorded(t, "a", folder, 1<<20, noLog)
-	firings := []serf.Firing{{Name: []byte("one")}, {Name: []byte("two")}, {Name: []byte("three")}}
+	firings := []serf.Firing{{Name: "one"}, {Name: "two"}, {Name: "three"}}
 	outcomes, err := a.TakeAll(0, []serf.Packet{{Data: []byte{9}}}, firings)
 	testkit.Must(t, err)
 	want := "deliver 09 0\nforeign 9\n\n"
@@ -34,7 +34,7 @@ func TestRecordedTagFilters(t *testing.T) {
 	a, b := openRecorded(t, "a", folder, 1<<20, noLog), openRecorded(t, "b", folder, 1<<20, noLog)
 	for _, passes := range []bool{true, false} {
 		filters := [][]byte{serfagent.FilterByTag("role", "web"), serfagent.FilterByNames("b")}
-		query, err := a.Query(5, 7, []byte("load"), nil, serfagent.QueryParams{Timeout: 1000, Filters: filters})
+		query, err := a.Query(5, 7, "load", nil, serfagent.QueryParams{Timeout: 1000, Filters: filters})
 		testkit.Must(t, err)
 		_, err = b.TakeAll(9, []serf.Packet{{Data: query.Packet, TagsPass: passes}}, nil)
 		testkit.Must(t, err)

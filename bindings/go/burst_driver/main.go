@@ -7,6 +7,7 @@ import (
 	"log"
 	"os"
 	"path/filepath"
+	"strings"
 
 	"kitchenrue.example/serfagent"
 )
@@ -109,9 +110,9 @@ func runStarved(third *serfagent.Agent, eventPackets [][]byte, loadPacket []byte
 			burst.Receive(5, packet, false)
 		}
 		burst.Receive(5, loadPacket, false)
-		burst.Fire([]byte("own"), nil, false)
+		burst.Fire("own", nil, false)
 		filters := [][]byte{[]byte("\x00\x91\xa5" + []string{"other", "third"}[i])}
-		burst.Query(5, 9, []byte("load"), nil, serfagent.QueryParams{Timeout: 9, WantAck: true, Filters: filters})
+		burst.Query(5, 9, "load", nil, serfagent.QueryParams{Timeout: 9, WantAck: true, Filters: filters})
 		burst.Receive(5, eventPackets[0], false)
 		runBurst(third, &burst)
 	}
@@ -125,11 +126,11 @@ func runAll(sender, receiver *serfagent.Agent, eventPackets [][]byte, loadPacket
 	} {
 		burst.Receive(5, packet, false)
 	}
-	burst.Fire([]byte("own"), nil, false)
-	burst.Fire(make([]byte, 600), nil, false)
-	burst.Query(5, 9, []byte("load"), nil, serfagent.QueryParams{Timeout: -1, WantAck: true})
+	burst.Fire("own", nil, false)
+	burst.Fire(strings.Repeat("\x00", 600), nil, false)
+	burst.Query(5, 9, "load", nil, serfagent.QueryParams{Timeout: -1, WantAck: true})
 	filters := [][]byte{[]byte("\x00\x91\xa5other")}
-	burst.Query(5, 9, []byte("load"), nil, serfagent.QueryParams{Timeout: 9, WantAck: true, Filters: filters})
+	burst.Query(5, 9, "load", nil, serfagent.QueryParams{Timeout: 9, WantAck: true, Filters: filters})
 	burst.Receive(5, eventPackets[2], false)
 	outcomes := runBurst(receiver, &burst)
 	reply, err := receiver.Respond(5, outcomes[5].Received.Query.Number, []byte("yes"))
@@ -139,7 +140,7 @@ func runAll(sender, receiver *serfagent.Agent, eventPackets [][]byte, loadPacket
 	burst.Receive(5, reply, false)
 	burst.Receive(5, reply, false)
 	for i := 0; i < 5; i++ {
-		burst.Fire([]byte("again"), nil, false)
+		burst.Fire("again", nil, false)
 	}
 	runBurst(sender, &burst)
 }
@@ -151,11 +152,11 @@ func main() {
 	sender := open("one")
 	var eventPackets [][]byte
 	for i := 0; i < 5; i++ {
-		_, packet, err := sender.Fire([]byte(fmt.Sprintf("e%d", i)), nil, false)
+		_, packet, err := sender.Fire(fmt.Sprintf("e%d", i), nil, false)
 		check(err)
 		eventPackets = append(eventPackets, packet)
 	}
-	load, err := sender.Query(1, 8, []byte("load"), nil, serfagent.QueryParams{Timeout: 1000, WantAck: true})
+	load, err := sender.Query(1, 8, "load", nil, serfagent.QueryParams{Timeout: 1000, WantAck: true})
 	check(err)
 	state, err := sender.LocalState(nil, nil)
 	check(err)

@@ -54,7 +54,7 @@ func (n *node) join(other *node) {
 
 // fire fires an event, handles it on this node, and returns the packet to send.
 func (n *node) fire(name, payload string) []byte {
-	event, packet, err := n.agent.Fire([]byte(name), []byte(payload), false)
+	event, packet, err := n.agent.Fire(name, []byte(payload), false)
 	check(err)
 	n.handle(event)
 	return packet
@@ -76,7 +76,7 @@ func (n *node) deliver(now uint64, packet []byte) {
 
 // ask fires a query, which the other agent acks and answers.
 func (n *node) ask(other *node, now uint64, name, answer string) {
-	query, err := n.agent.Query(now, 7, []byte(name), nil, serfagent.QueryParams{Timeout: 1000, WantAck: true})
+	query, err := n.agent.Query(now, 7, name, nil, serfagent.QueryParams{Timeout: 1000, WantAck: true})
 	check(err)
 	received, err := other.agent.Receive(now, query.Packet, false)
 	check(err)

@@ -25,8 +25,9 @@ type Packet struct {
 
 // Firing is an event to fire.
 type Firing struct {
-	Name, Payload []byte
-	Coalesce      bool
+	Name     string
+	Payload  []byte
+	Coalesce bool
 }
 
 // Agent has the methods of the proved agent that a node calls. The node makes the calls that change the agent one at a
@@ -38,7 +39,7 @@ type Agent interface {
 	TakeAll(now uint64, packets []Packet, firings []Firing) ([]serfagent.Outcome, error)
 	Merge(packet []byte, isJoin bool) ([]*serfagent.Event, error)
 	LocalState(statuses []serfagent.Status, left []string) ([]byte, error)
-	Query(now uint64, id uint32, name, payload []byte, params serfagent.QueryParams) (*serfagent.FiredQuery, error)
+	Query(now uint64, id uint32, name string, payload []byte, params serfagent.QueryParams) (*serfagent.FiredQuery, error)
 	Respond(now, number uint64, payload []byte) ([]byte, error)
 	// Forget forgets a query that was handed out and that this node won't answer. CloseDue forgets the queries whose
 	// deadline has passed.

@@ -39,14 +39,14 @@ const maxRelays = 8
 // factor. It also returns none if no member has the name and address of the query's source, since the relays would drop
 // the answer.
 func (s *Serf) relays(query *serfagent.PendingQuery) []Member {
-	factor, source := int(query.RelayFactor), string(query.Source)
-	if factor == 0 || s.members.size() < factor+1 || !s.isMember(source, query.Addr, query.Port) {
+	factor := int(query.RelayFactor)
+	if factor == 0 || s.members.size() < factor+1 || !s.isMember(query.Source, query.Addr, query.Port) {
 		return nil
 	}
 	if factor > maxRelays {
 		factor = maxRelays
 	}
-	return s.members.pickOthers(factor, source)
+	return s.members.pickOthers(factor, query.Source)
 }
 
 // isMember reports whether a member has this name and address.
@@ -57,18 +57,17 @@ func (s *Serf) isMember(name string, addr net.IP, port uint16) bool {
 
 // sendReply sends an ack or a response to the node that fired the query, and through its relays.
 func (s *Serf) sendReply(query *serfagent.PendingQuery, packet []byte) {
-	source := string(query.Source)
 	self := s.memberlist().LocalNode()
-	if source == self.Name && self.Addr.Equal(query.Addr) && self.Port == query.Port {
+	if query.Source == self.Name && self.Addr.Equal(query.Addr) && self.Port == query.Port {
 		delegate{s}.NotifyMsg(packet)
 		return
 	}
-	s.sendToNode(source, query.Addr, query.Port, packet)
+	s.sendToNode(query.Source, query.Addr, query.Port, packet)
 	relays := s.relays(query)
 	if len(relays) == 0 {
 		return
 	}
-	relayed := encodeRelay(relay{addr: query.Addr, port: query.Port, name: source, message: packet})
+	relayed := encodeRelay(relay{addr: query.Addr, port: query.Port, name: query.Source, message: packet})
 	for _, member := range relays {
 		s.sendToNode(member.Name, member.Addr, member.Port, relayed)
 	}

@@ -13,7 +13,7 @@ import (
 func TestUnrequestedAcksAreIgnored(t *testing.T) {
 	for _, acks := range []chan string{nil, make(chan string, 1)} {
 		r := &QueryResponse{acks: acks, responses: make(chan NodeResponse, 2)}
-		if !r.deliver(&serfagent.Answer{From: []byte("a")}, true) || !r.deliver(&serfagent.Answer{From: []byte("b")}, false) {
+		if !r.deliver(&serfagent.Answer{From: "a"}, true) || !r.deliver(&serfagent.Answer{From: "b"}, false) {
 			t.Error("an answer was not delivered, although there is room")
 		}
 		if len(r.responses) != 1 || (<-r.responses).From != "b" || len(acks) != cap(acks) {
@@ -45,7 +45,7 @@ func TestAnswersAreRelayedByOthersOnly(t *testing.T) {
 		a.members.memberJoined(Member{Name: name, Addr: net.IPv4(127, 0, 0, 1).To4(), Port: uint16(socket.LocalAddr().(*net.UDPAddr).Port)})
 	}
 	asker, _ := a.members.get("asker")
-	a.sendReply(&serfagent.PendingQuery{Source: []byte("asker"), Addr: asker.Addr, Port: asker.Port, RelayFactor: 2}, []byte("\x06answer"))
+	a.sendReply(&serfagent.PendingQuery{Source: "asker", Addr: asker.Addr, Port: asker.Port, RelayFactor: 2}, []byte("\x06answer"))
 	for name, want := range map[string]string{"asker": "[6]", "other": "[9]"} {
 		var types []byte
 		// (all packets have been sent by then, so the test doesn't wait long for a second one)
@@ -83,7 +83,7 @@ func TestRelaysAreBounded(t *testing.T) {
 		{0, 20000, "m0", 0}, {1, 20000, "m0", 1}, {7, 20000, "m0", 7}, {20, 20000, "m0", maxRelays}, {21, 20000, "m0", 0},
 		{255, 20000, "m0", 0}, {5, 20001, "m0", 0}, {5, 20000, "x", 0},
 	} {
-		query := &serfagent.PendingQuery{Source: []byte(test.source), Addr: addr, Port: test.port, RelayFactor: test.factor}
+		query := &serfagent.PendingQuery{Source: test.source, Addr: addr, Port: test.port, RelayFactor: test.factor}
 		if relays := a.relays(query); len(relays) != test.want {
 			t.Error(test, len(relays))
 		}

@@ -140,7 +140,7 @@ func TestUnansweredQueriesAreForgotten(t *testing.T) {
 	f := &fakeAgent{}
 	a := startNode(t, "a", "", withAgent(f))
 	for number := uint64(1); number <= maxUnanswered+3; number++ {
-		a.stageQuery(&serfagent.PendingQuery{Number: number, Name: []byte("x")}, nil)
+		a.stageQuery(&serfagent.PendingQuery{Number: number, Name: "x"}, nil)
 	}
 	f.mu.Lock()
 	defer f.mu.Unlock()
@@ -156,7 +156,7 @@ func TestDroppedQueryIsForgotten(t *testing.T) {
 		agent: f, log: log.New(io.Discard, "", 0), internalQueries: make(chan *serfagent.PendingQuery),
 		queryNames: newNameCounter("queries"),
 	}
-	node.stageQuery(&serfagent.PendingQuery{Number: 9, Name: []byte(InternalQueryPrefix + "ping")}, nil)
+	node.stageQuery(&serfagent.PendingQuery{Number: 9, Name: InternalQueryPrefix + "ping"}, nil)
 	if !reflect.DeepEqual(f.forgotten, []uint64{9}) {
 		t.Error(f.forgotten)
 	}
@@ -224,7 +224,7 @@ func TestBurstOfPacketsAndFirings(t *testing.T) {
 	f := &fakeAgent{}
 	a := startNode(t, "a", "", withAgent(f))
 	burst := func() *firing {
-		firing := &firing{Firing: Firing{Name: []byte("x")}, done: make(chan struct{}, 1)}
+		firing := &firing{Firing: Firing{Name: "x"}, done: make(chan struct{}, 1)}
 		if isLeader, ok := a.firings.add(firing); !isLeader || !ok {
 			t.Fatal("another goroutine fires")
 		}

@@ -224,7 +224,7 @@ func TestOutcomesAreReadEventually(t *testing.T) {
 type mergeRunsOut struct{ *fakeAgent }
 
 func (mergeRunsOut) Merge([]byte, bool) ([]*serfagent.Event, error) {
-	return []*serfagent.Event{{Time: 3, Name: []byte("merged"), Payload: []byte("x"), Coalesce: true}}, serfagent.OutOfMemory
+	return []*serfagent.Event{{Time: 3, Name: "merged", Payload: []byte("x"), Coalesce: true}}, serfagent.OutOfMemory
 }
 
 // If a merge runs out of memory, the node hands out the events that the merge accepted before that, with the right

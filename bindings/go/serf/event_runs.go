@@ -59,7 +59,7 @@ func EventRunsOf(text []byte) (*EventRuns, error) {
 	}
 	states := make(map[eventKey]EventState, len(open))
 	for _, event := range open {
-		key := eventKey{LamportTime(event.Time), string(event.Name), string(event.Payload)}
+		key := eventKey{LamportTime(event.Time), event.Name, string(event.Payload)}
 		if states[key] = EventWaiting; event.HasBegun {
 			states[key] = EventBegun
 		}

@@ -220,7 +220,7 @@ func nodeB() *memberlist.Node {
 // intentPacket returns the packet of an intent.
 func intentPacket(t *testing.T, time uint64, node string, isLeave bool) []byte {
 	t.Helper()
-	packet, err := serfagent.Intent{Time: time, Node: []byte(node), Leave: isLeave}.Packet()
+	packet, err := serfagent.Intent{Time: time, Node: node, Leave: isLeave}.Packet()
 	must(t, err)
 	return packet
 }
@@ -318,7 +318,7 @@ func (f *fakeAgent) TakeAll(_ uint64, packets []Packet, firings []Firing) (outco
 			continue
 		}
 		f.time++
-		event := &serfagent.Event{Time: f.time, Name: []byte("fake"), Payload: packet.Data[1:]}
+		event := &serfagent.Event{Time: f.time, Name: "fake", Payload: packet.Data[1:]}
 		outcomes = append(
 			outcomes, serfagent.Outcome{Received: &serfagent.Received{Kind: serfagent.NewEvent, Event: event, Rebroadcast: true}},
 		)
@@ -349,7 +349,7 @@ func (f *fakeAgent) LocalState([]serfagent.Status, []string) ([]byte, error) {
 	return []byte(fmt.Sprint("state ", f.time)), nil
 }
 
-func (f *fakeAgent) Query(uint64, uint32, []byte, []byte, serfagent.QueryParams) (*serfagent.FiredQuery, error) {
+func (f *fakeAgent) Query(uint64, uint32, string, []byte, serfagent.QueryParams) (*serfagent.FiredQuery, error) {
 	return nil, serfagent.TooLarge
 }
 
@@ -399,7 +399,7 @@ func (f *failingAgent) Merge(state []byte, _ bool) ([]*serfagent.Event, error) {
 	f.mu.Lock()
 	defer f.mu.Unlock()
 	f.time++
-	return []*serfagent.Event{{Time: f.time, Name: []byte("merged"), Payload: state}}, f.failIfChosen("Merge")
+	return []*serfagent.Event{{Time: f.time, Name: "merged", Payload: state}}, f.failIfChosen("Merge")
 }
 
 func (f *failingAgent) ObserveMember(time uint64) error {

@@ -222,7 +222,7 @@ func (s *Serf) UserEvent(name string, payload []byte, coalesce bool) error {
 func (s *Serf) Fire(name string, payload []byte, coalesce bool) (LamportTime, error) {
 	firing := firingPool.Get().(*firing)
 	defer firingPool.Put(firing)
-	firing.Firing, firing.time = Firing{append(firing.Name[:0], name...), payload, coalesce}, 0
+	firing.Firing, firing.time = Firing{name, payload, coalesce}, 0
 	return s.fire(context.Background(), firing)
 }
 
@@ -242,7 +242,7 @@ func (s *Serf) FireContext(ctx context.Context, name string, payload []byte, coa
 	if len(payload) > 0 {
 		copied = append([]byte(nil), payload...)
 	}
-	return s.fire(ctx, &firing{Firing: Firing{[]byte(name), copied, coalesce}, done: make(chan struct{}, 1)})
+	return s.fire(ctx, &firing{Firing: Firing{name, copied, coalesce}, done: make(chan struct{}, 1)})
 }
 
 // fire fires an event as soon as there is room. If ctx has no Done channel, fire waits for the result however long it takes.

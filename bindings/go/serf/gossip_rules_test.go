@@ -151,7 +151,7 @@ func TestConflictsThatNobodyDecides(t *testing.T) {
 func TestFiringWithoutRoomIsRefused(t *testing.T) {
 	a := startNode(t, "a", "", withAgent(&fakeAgent{}))
 	a.fillPipe()
-	late := &firing{Firing: Firing{Name: []byte("late")}, done: make(chan struct{}, 1)}
+	late := &firing{Firing: Firing{Name: "late"}, done: make(chan struct{}, 1)}
 	if _, ok := a.firings.add(late); !ok {
 		t.Fatal("the node accepts no firings")
 	}
@@ -288,7 +288,7 @@ type queryingAgent struct {
 	params serfagent.QueryParams
 }
 
-func (q *queryingAgent) Query(now uint64, id uint32, name, payload []byte, params serfagent.QueryParams) (*serfagent.FiredQuery, error) {
+func (q *queryingAgent) Query(now uint64, id uint32, name string, payload []byte, params serfagent.QueryParams) (*serfagent.FiredQuery, error) {
 	q.params = params
 	return q.fakeAgent.Query(now, id, name, payload, params)
 }

@@ -26,9 +26,9 @@ func unhex(t *testing.T, text string) []byte {
 
 func TestSerfsIntents(t *testing.T) {
 	for text, want := range map[string]serfagent.Intent{
-		joinPacket:  {Time: 1, Node: []byte("gamma")},
-		leavePacket: {Time: 2, Node: []byte("beta"), Leave: true},
-		prunePacket: {Time: 5, Node: []byte("beta"), Leave: true, Prune: true},
+		joinPacket:  {Time: 1, Node: "gamma"},
+		leavePacket: {Time: 2, Node: "beta", Leave: true},
+		prunePacket: {Time: 5, Node: "beta", Leave: true, Prune: true},
 	} {
 		packet := unhex(t, text)
 		if found, err := parseIntent(packet); err != nil || !reflect.DeepEqual(found, want) {
@@ -70,7 +70,7 @@ func TestIntentsRaiseMemberClock(t *testing.T) {
 	a, _ := startPair(t)
 	a.delegate().NotifyMsg(unhex(t, leavePacket))
 	eventually(t, "the intent is held", func() bool {
-		return a.members.receiveIntent(serfagent.Intent{Time: 2, Node: []byte("beta")}) == (intentOutcome{})
+		return a.members.receiveIntent(serfagent.Intent{Time: 2, Node: "beta"}) == (intentOutcome{})
 	})
 	clocks, err := a.agent.Clocks()
 	if err != nil || clocks.Member < 3 {

@@ -23,7 +23,7 @@ func (s *Serf) answerInternalQueries() {
 
 // answerInternalQuery answers one internal query.
 func (s *Serf) answerInternalQuery(query *serfagent.PendingQuery) {
-	suffix := strings.TrimPrefix(string(query.Name), InternalQueryPrefix)
+	suffix := strings.TrimPrefix(query.Name, InternalQueryPrefix)
 	var payload []byte
 	switch command := keyCommand(suffix); {
 	case suffix == "ping":

@@ -119,7 +119,7 @@ func (s *Serf) announce() error {
 	if s.State() != SerfAlive {
 		return nil
 	}
-	_, err := s.broadcastIntent(serfagent.Intent{Node: []byte(s.config.NodeName)})
+	_, err := s.broadcastIntent(serfagent.Intent{Node: s.config.NodeName})
 	return err
 }
 
@@ -262,7 +262,7 @@ func (s *Serf) leaveMemberlist() (err error) {
 func (s *Serf) announceLeave() (sent chan struct{}, err error) {
 	s.announceMu.Lock()
 	defer s.announceMu.Unlock()
-	sent, err = s.broadcastIntent(serfagent.Intent{Node: []byte(s.config.NodeName), Leave: true})
+	sent, err = s.broadcastIntent(serfagent.Intent{Node: s.config.NodeName, Leave: true})
 	if err != nil {
 		s.stateMu.Lock()
 		if s.state == SerfLeaving {
@@ -301,7 +301,7 @@ func (s *Serf) forceLeave(name string, prune bool) error {
 	if name == s.config.NodeName {
 		return errors.New("this is the name of the node itself: to leave, call Leave")
 	}
-	sent, err := s.broadcastIntent(serfagent.Intent{Node: []byte(name), Leave: true, Prune: prune})
+	sent, err := s.broadcastIntent(serfagent.Intent{Node: name, Leave: true, Prune: prune})
 	if err != nil {
 		return err
 	}

@@ -67,7 +67,7 @@ func (s *Serf) limitKeptEvents() error {
 func (s *Serf) countKeptEvent(event *serfagent.Event) {
 	s.grownBytes += maxClockLines
 	if s.keptEvents != nil {
-		s.keptEvents.admit(event.Time, event.Name, event.Payload, true)
+		s.keptEvents.admit(event.Time, []byte(event.Name), event.Payload, true)
 		s.grownBytes += eventOverhead + 2*(len(event.Name)+len(event.Payload))
 	}
 	if s.grownBytes >= compactCheckGrowth {

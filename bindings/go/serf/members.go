@@ -247,7 +247,7 @@ func (l *memberList) receiveIntent(intent serfagent.Intent) (found intentOutcome
 
 // applyIntent is receiveIntent with mu held.
 func (l *memberList) applyIntent(intent serfagent.Intent) intentOutcome {
-	m := l.members[string(intent.Node)]
+	m := l.members[intent.Node]
 	if m == nil {
 		return intentOutcome{isNew: l.holdIntent(intent)}
 	}
@@ -301,7 +301,7 @@ func (l *memberList) mustRefuteLeave() bool {
 // holdIntent holds an intent of a node that isn't a member yet, and reports whether the intent is new. It does not hold
 // the intent if no member can have the node's name, or if the list already holds maxIntents intents.
 func (l *memberList) holdIntent(intent serfagent.Intent) bool {
-	now, name := time.Now(), string(intent.Node)
+	now, name := time.Now(), intent.Node
 	if name == "" || len(name) > maxNameLength {
 		return false
 	}
@@ -326,7 +326,7 @@ func (l *memberList) mergeState(state *serfagent.Members) (mustRefute bool, wron
 	}
 	l.change(func() {
 		for _, name := range state.Left {
-			if l.applyIntent(serfagent.Intent{Time: times[name], Node: []byte(name), Leave: true}).mustRefute {
+			if l.applyIntent(serfagent.Intent{Time: times[name], Node: name, Leave: true}).mustRefute {
 				mustRefute = true
 			}
 		}
@@ -338,7 +338,7 @@ func (l *memberList) mergeState(state *serfagent.Members) (mustRefute bool, wron
 				mustRefute = l.recordWrongLeave(time).mustRefute
 				continue
 			}
-			l.applyIntent(serfagent.Intent{Time: time, Node: []byte(name)})
+			l.applyIntent(serfagent.Intent{Time: time, Node: name})
 		}
 		wrongLeaveTime = l.wrongLeaveTime
 	})

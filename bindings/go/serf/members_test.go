@@ -50,7 +50,7 @@ func (c *testMembers) run(words string) string {
 		case "update":
 			c.memberUpdated(aliveMember(name))
 		case "came", "leaves", "pruned":
-			outcome := c.receiveIntent(serfagent.Intent{Time: time, Node: []byte(name), Leave: what != "came", Prune: what == "pruned"})
+			outcome := c.receiveIntent(serfagent.Intent{Time: time, Node: name, Leave: what != "came", Prune: what == "pruned"})
 			if outcome.isNew {
 				outcomes = append(outcomes, "new")
 			}
@@ -262,7 +262,7 @@ func TestHeldIntentsAreLimited(t *testing.T) {
 func TestIntentsOfImpossibleNames(t *testing.T) {
 	c := newTestMembers()
 	for _, name := range []string{"", strings.Repeat("x", 129)} {
-		if c.receiveIntent(serfagent.Intent{Time: 3, Node: []byte(name), Leave: true}).isNew || len(c.intents) > 0 {
+		if c.receiveIntent(serfagent.Intent{Time: 3, Node: name, Leave: true}).isNew || len(c.intents) > 0 {
 			t.Errorf("an intent for %q is held", name)
 		}
 	}

@@ -73,14 +73,15 @@ func (s *Serf) reportNames() {
 	s.queryNames.report()
 }
 
-// countName adds one to a name's count and returns the name as a string. report sends the count later.
-func (n *nameCounter) countName(text []byte) string {
+// countName adds one to a name's count. report sends the count later. countName returns a copy of the name, so that a
+// program that keeps names doesn't keep the memory of whole events.
+func (n *nameCounter) countName(text string) string {
 	n.mu.Lock()
 	defer n.mu.Unlock()
 	n.total++
-	name := n.known[string(text)]
+	name := n.known[text]
 	if name == nil {
-		if name = n.addName(string(text)); len(n.known) < n.max && len(text) <= maxCountedLength {
+		if name = n.addName(strings.Clone(text)); len(n.known) < n.max && len(text) <= maxCountedLength {
 			n.known[name.text] = name
 		}
 	}

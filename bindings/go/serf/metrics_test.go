@@ -79,8 +79,8 @@ func TestNumberOfCountedNamesIsLimited(t *testing.T) {
 	counted := captureMetrics(t)
 	names := newNameCounter("events")
 	for i := 0; i < 2*maxCountedNames; i++ {
-		names.countName([]byte(fmt.Sprint("e", i)))
-		names.countName([]byte("e0"))
+		names.countName(fmt.Sprint("e", i))
+		names.countName("e0")
 		if i%10 == 0 {
 			names.report()
 		}
@@ -108,16 +108,16 @@ func TestReservedNamesAreCounted(t *testing.T) {
 	names := newNameCounter("events")
 	flood := func(prefix string) {
 		for i := 0; i < 2*maxCountedNames; i++ {
-			names.countName([]byte(fmt.Sprint(prefix, i)))
+			names.countName(fmt.Sprint(prefix, i))
 		}
 	}
 	names.reserve([]string{"early"})
 	flood("e")
-	names.countName([]byte("late"))
+	names.countName("late")
 	names.reserve([]string{"late", "never", "e1", "e200"})
 	flood("f")
 	for _, name := range []string{"early", "late", "e1", "e200"} {
-		names.countName([]byte(name))
+		names.countName(name)
 	}
 	names.report()
 	text := counted()
@@ -139,11 +139,11 @@ func TestKnownNameIsReserved(t *testing.T) {
 	counted := captureMetrics(t)
 	names := newNameCounter("events")
 	for i := 0; i < maxCountedNames; i++ {
-		names.countName([]byte(fmt.Sprint(i, strings.Repeat("x", maxCountedLength))))
+		names.countName(fmt.Sprint(i, strings.Repeat("x", maxCountedLength)))
 	}
-	names.countName([]byte("deploy"))
+	names.countName("deploy")
 	names.reserve([]string{"deploy"})
-	names.countName([]byte("deploy"))
+	names.countName("deploy")
 	if names.report(); !strings.Contains(counted(), "\nserf.events.deploy=1\n") {
 		t.Error(counted())
 	}

@@ -301,7 +301,7 @@ func TestStatesThatSayItLeftAreRefuted(t *testing.T) {
 func TestLaterTimesInStatesAreRefuted(t *testing.T) {
 	a, b := startPair(t)
 	// (b has just restarted and holds the leave, which it got from the state of a third node)
-	b.members.receiveIntent(serfagent.Intent{Time: 900, Node: []byte("a"), Leave: true})
+	b.members.receiveIntent(serfagent.Intent{Time: 900, Node: "a", Leave: true})
 	state, err := b.agent.LocalState([]serfagent.Status{{Name: "a", Time: 900}}, nil)
 	must(t, err)
 	a.delegate().MergeRemoteState(state, false)

@@ -40,8 +40,8 @@ type eventKey struct {
 func keyOf(e UserEvent) eventKey { return eventKey{e.LTime, e.Name, string(e.Payload)} }
 
 // lineOf returns the line about the event that makeLine, a function of serfagent, makes.
-func (k eventKey) lineOf(makeLine func(uint64, []byte, []byte) ([]byte, error)) ([]byte, error) {
-	return makeLine(uint64(k.time), []byte(k.name), []byte(k.payload))
+func (k eventKey) lineOf(makeLine func(uint64, string, []byte) ([]byte, error)) ([]byte, error) {
+	return makeLine(uint64(k.time), k.name, []byte(k.payload))
 }
 
 // openState is the state of an open event. position is its place in the order in which events were handed out, begunCount
@@ -85,7 +85,7 @@ func newOpenEvents(maxOpen int, holdBack func(bool)) *openEvents {
 // handlers ended. lastTime is the time of the text's last event.
 func (o *openEvents) restore(handlers *handlerText, events []serfagent.OpenEvent, lastTime uint64) {
 	for _, event := range events {
-		e := UserEvent{LamportTime(event.Time), string(event.Name), payloadOf(event.Payload, nil), false}
+		e := UserEvent{LamportTime(event.Time), event.Name, payloadOf(event.Payload, nil), false}
 		state := openState{}
 		if event.HasBegun {
 			state.begunCount = 1

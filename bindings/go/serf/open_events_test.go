@@ -189,7 +189,7 @@ func TestOpenEventsOverCompactions(t *testing.T) {
 func namesOfOpen(events []serfagent.OpenEvent) string {
 	var names []string
 	for _, e := range events {
-		name := string(e.Name)
+		name := e.Name
 		if e.HasBegun {
 			name += "+"
 		}

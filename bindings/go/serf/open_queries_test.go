@@ -47,7 +47,7 @@ func TestChannelsOfAQuery(t *testing.T) {
 func TestAnswersWithoutRoomAreCounted(t *testing.T) {
 	s := &Serf{openQueries: map[queryKey]*QueryResponse{{9, 1}: {acks: make(chan string, 1), responses: make(chan NodeResponse, 1)}}}
 	for i, kind := range []serfagent.Kind{serfagent.Ack, serfagent.Response, serfagent.Ack, serfagent.Response} {
-		s.deliverAnswer(&serfagent.Received{Kind: kind, Answer: &serfagent.Answer{Time: 9, ID: 1, From: []byte("b")}})
+		s.deliverAnswer(&serfagent.Received{Kind: kind, Answer: &serfagent.Answer{Time: 9, ID: 1, From: "b"}})
 		if want := i - 1; i > 1 && s.dropped.Load() != int64(want) || i <= 1 && s.dropped.Load() != 0 {
 			t.Errorf("after %d answers %d were dropped", i+1, s.dropped.Load())
 		}
@@ -59,7 +59,7 @@ func TestLast8192QueriesCanBeAnswered(t *testing.T) {
 	f := &fakeAgent{}
 	a := startNode(t, "a", "", withAgent(f))
 	for number := uint64(1); number <= 8192+2; number++ {
-		a.stageQuery(&serfagent.PendingQuery{Number: number, Name: []byte("x")}, nil)
+		a.stageQuery(&serfagent.PendingQuery{Number: number, Name: "x"}, nil)
 	}
 	f.mu.Lock()
 	defer f.mu.Unlock()

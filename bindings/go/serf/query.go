@@ -102,14 +102,14 @@ func (r *QueryResponse) deliver(answer *serfagent.Answer, isAck bool) bool {
 	}
 	if isAck {
 		select {
-		case r.acks <- string(answer.From):
+		case r.acks <- answer.From:
 			return true
 		default:
 			return false
 		}
 	}
 	select {
-	case r.responses <- NodeResponse{string(answer.From), payloadOf(answer.Payload, nil)}:
+	case r.responses <- NodeResponse{answer.From, payloadOf(answer.Payload, nil)}:
 		return true
 	default:
 		return false
@@ -187,7 +187,7 @@ func (s *Serf) fireAndOpen(
 		return nil, nil, ErrQueries
 	}
 	id := rand.Uint32()
-	fired, err := s.agent.Query(s.now(), id, []byte(name), payload, agentParams)
+	fired, err := s.agent.Query(s.now(), id, name, payload, agentParams)
 	if err != nil {
 		return nil, nil, err
 	}

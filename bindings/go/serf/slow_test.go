@@ -187,11 +187,11 @@ type recordingAgent struct {
 func (n *recordingAgent) record(event *serfagent.Event, query *serfagent.PendingQuery) {
 	if event != nil {
 		n.recorded.received = append(
-			n.recorded.received, UserEvent{LTime: LamportTime(event.Time), Name: string(event.Name), Payload: event.Payload},
+			n.recorded.received, UserEvent{LTime: LamportTime(event.Time), Name: event.Name, Payload: event.Payload},
 		)
 	}
 	if query != nil {
-		n.recorded.received = append(n.recorded.received, &Query{LTime: LamportTime(query.Time), Name: string(query.Name)})
+		n.recorded.received = append(n.recorded.received, &Query{LTime: LamportTime(query.Time), Name: query.Name})
 	}
 }
 
@@ -219,7 +219,7 @@ func (n *recordingAgent) Merge(state []byte, isJoin bool) ([]*serfagent.Event, e
 	return events, err
 }
 
-func (n *recordingAgent) Query(now uint64, id uint32, name, payload []byte, params serfagent.QueryParams) (*serfagent.FiredQuery, error) {
+func (n *recordingAgent) Query(now uint64, id uint32, name string, payload []byte, params serfagent.QueryParams) (*serfagent.FiredQuery, error) {
 	n.recorded.mu.Lock()
 	defer n.recorded.mu.Unlock()
 	fired, err := n.Agent.Query(now, id, name, payload, params)

@@ -24,11 +24,11 @@ func TestABurstOfMoreThanMemoryHas(t *testing.T) {
 	packets, want := [][]byte{[]byte("\x03\x80\x00")}, []string(nil)
 	for i := 0; i < 8; i++ {
 		want = append(want, fmt.Sprint("e", i))
-		_, packet, err := other.Fire([]byte(want[i]), nil, false)
+		_, packet, err := other.Fire(want[i], nil, false)
 		must(t, err)
 		packets = append(packets, packet)
 	}
-	fired, err := other.Query(1, 7, []byte("q"), nil, serfagent.QueryParams{Timeout: time.Hour})
+	fired, err := other.Query(1, 7, "q", nil, serfagent.QueryParams{Timeout: time.Hour})
 	must(t, err)
 	packets[2], want = fired.Packet, append(want, "q")
 	state, err := other.LocalState(nil, nil)

@@ -58,17 +58,23 @@ const (
 	bufferBytes = 8192
 )
 
-var noBytes [1]byte
+// noByte is a byte whose address C gets if there are no bytes.
+var noByte C.uint8_t
 
-// ptr returns the address of data for C, which needs one even if there are no bytes.
-func ptr(data []byte) *C.uint8_t {
+// ptr returns the address of bytes for C, which needs one even if there are no bytes. The library only reads the bytes
+// of a string.
+func ptr[Bytes string | []byte](data Bytes) *C.uint8_t {
 	if len(data) == 0 {
-		data = noBytes[:]
+		return &noByte
 	}
-	return (*C.uint8_t)(unsafe.Pointer(&data[0]))
+	// (a string and a slice both begin with the address of their bytes)
+	return *(**C.uint8_t)(unsafe.Pointer(&data))
 }
 
-func size(data []byte) C.size_t { return C.size_t(len(data)) }
+func size[Bytes string | []byte](data Bytes) C.size_t { return C.size_t(len(data)) }
+
+// stringOf returns the bytes as a string, without a copy. Nothing may change the bytes afterwards.
+func stringOf(data []byte) string { return *(*string)(unsafe.Pointer(&data)) }
 
 // textStore keeps an agent's snapshot text: a Store, or memory.
 type textStore interface {
@@ -136,8 +142,7 @@ func open(name string, store textStore, text []byte, settings Settings) (*Agent,
 		ignore_old:     C.bool(settings.IgnoreOld),
 		keep_events:    C.bool(settings.KeepEvents),
 	}
-	nameData := []byte(name)
-	code := C.serf_agent_open(agent.handle, ptr(nameData), size(nameData), &cSettings, ptr(text), size(text))
+	code := C.serf_agent_open(agent.handle, ptr(name), size(name), &cSettings, ptr(text), size(text))
 	if err := agent.complete(code); err != nil {
 		agent.Close()
 		if err == BadConfig {
@@ -217,7 +222,7 @@ func (a *Agent) event(index int) (*Event, error) {
 		length, payloadLength := int(info.name_len), int(info.payload_len)
 		if length <= len(name) && payloadLength <= len(payload) {
 			texts := append(append(make([]byte, 0, length+payloadLength), name[:length]...), payload[:payloadLength]...)
-			return &Event{uint64(info.time), texts[:length:length], texts[length:], bool(info.coalesce)}, nil
+			return &Event{uint64(info.time), stringOf(texts[:length]), texts[length:], bool(info.coalesce)}, nil
 		}
 		name, payload = make([]byte, length), make([]byte, payloadLength)
 	}
@@ -258,7 +263,7 @@ func countedAnswer(packet []byte) (*Answer, error) {
 			return nil, err
 		}
 	}
-	return &Answer{uint64(info.time), uint32(info.id), from, payload}, nil
+	return &Answer{uint64(info.time), uint32(info.id), stringOf(from), payload}, nil
 }
 
 // Receive handles a packet from the network. tagsPass says whether this node's tags pass every tag filter of the
@@ -303,7 +308,7 @@ func (a *Agent) receivedResult(packet []byte) (*Received, error) {
 }
 
 // Fire fires an event. It returns the event as it is handed out on this node, and the packet to send.
-func (a *Agent) Fire(name, payload []byte, coalesce bool) (*Event, []byte, error) {
+func (a *Agent) Fire(name string, payload []byte, coalesce bool) (*Event, []byte, error) {
 	a.mu.Lock()
 	defer a.mu.Unlock()
 	if err := a.complete(C.serf_agent_fire(a.handle, ptr(name), size(name), ptr(payload), size(payload), C.bool(coalesce))); err != nil {

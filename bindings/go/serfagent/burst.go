@@ -87,14 +87,15 @@ type Fired struct {
 
 // burstCall is a call of a burst: a packet, an event, or a query with its parameters.
 type burstCall struct {
-	kind          burstKind
-	now           uint64
-	id            uint32
-	packet        []byte
-	tagsPass      bool
-	name, payload []byte
-	coalesce      bool
-	params        QueryParams
+	kind     burstKind
+	now      uint64
+	id       uint32
+	packet   []byte
+	tagsPass bool
+	name     string
+	payload  []byte
+	coalesce bool
+	params   QueryParams
 }
 
 type burstKind int
@@ -111,12 +112,12 @@ func (b *Burst) Receive(now uint64, packet []byte, tagsPass bool) {
 }
 
 // Fire adds an event to fire.
-func (b *Burst) Fire(name, payload []byte, coalesce bool) {
+func (b *Burst) Fire(name string, payload []byte, coalesce bool) {
 	b.calls = append(b.calls, burstCall{kind: fireCall, name: name, payload: payload, coalesce: coalesce})
 }
 
 // Query adds a query to fire. Choose id at random.
-func (b *Burst) Query(now uint64, id uint32, name, payload []byte, params QueryParams) {
+func (b *Burst) Query(now uint64, id uint32, name string, payload []byte, params QueryParams) {
 	b.calls = append(b.calls, burstCall{kind: queryCall, now: now, id: id, name: name, payload: payload, params: params})
 }
 
@@ -273,7 +274,7 @@ func (a *Agent) readFirings(calls []burstCall, outcomes []Outcome) ([]Outcome, e
 		chunk = append(chunk, unreadTexts[:length]...)
 		texts := chunk[start:]
 		unreadTexts = unreadTexts[length:]
-		event.Event = Event{uint64(info.time), texts[:nameEnd:nameEnd], texts[nameEnd:payloadEnd:payloadEnd], bool(info.coalesce)}
+		event.Event = Event{uint64(info.time), stringOf(texts[:nameEnd]), texts[nameEnd:payloadEnd:payloadEnd], bool(info.coalesce)}
 		event.Fired = Fired{&event.Event, texts[payloadEnd:length:length]}
 		outcomes = append(outcomes, Outcome{Call: callIndex, Fired: &event.Fired})
 	}

@@ -20,7 +20,7 @@ func TestBurstWithFailingFile(t *testing.T) {
 	must(t, err)
 	defer agent.Close()
 	var burst Burst
-	burst.Fire([]byte("x"), nil, false)
+	burst.Fire("x", nil, false)
 	if outcomes, err := agent.Burst(&burst); err != nil || len(outcomes) != 1 || outcomes[0].Fired == nil {
 		t.Fatal(outcomes, err)
 	}
@@ -39,7 +39,7 @@ func TestBurstWhileOutcomesAreUnread(t *testing.T) {
 	must(t, err)
 	defer agent.Close()
 	var burst Burst
-	burst.Fire([]byte("x"), nil, false)
+	burst.Fire("x", nil, false)
 	burst.Receive(1, nil, false)
 	if err := agent.makeCalls(burst.calls); err != nil || agent.complete(0) != nil {
 		t.Fatal(err)

@@ -4,6 +4,7 @@ import (
 	"bytes"
 	"os"
 	"path/filepath"
+	"strings"
 	"testing"
 )
 
@@ -43,12 +44,12 @@ func textOf(t *testing.T, path string) string {
 func TestBurstOutcomesInOrder(t *testing.T) {
 	sender, _ := openTestAgent(t, "one")
 	receiver, path := openTestAgent(t, "other")
-	_, packet, err := sender.Fire([]byte("deploy"), nil, false)
+	_, packet, err := sender.Fire("deploy", nil, false)
 	must(t, err)
 	var burst Burst
 	burst.Receive(1, packet, false)
 	burst.Receive(1, packet[:len(packet)-1], false)
-	burst.Fire([]byte("own"), nil, false)
+	burst.Fire("own", nil, false)
 	burst.Receive(1, packet, false)
 	if burst.Len() != 4 {
 		t.Error(burst.Len())
@@ -94,17 +95,52 @@ func TestTextsOfEveryLength(t *testing.T) {
 		{0, 0}, {1, 0}, {nameBytes - 1, 1}, {nameBytes, bufferBytes - nameBytes}, {nameBytes + 1, 0}, {3, bufferBytes - nameBytes + 1},
 		{400, 8700}, {9100, 0}, {0, 9100},
 	} {
-		name, payload := bytes.Repeat([]byte("n"), lengths[0]), bytes.Repeat([]byte("p"), lengths[1])
+		name, payload := strings.Repeat("n", lengths[0]), bytes.Repeat([]byte("p"), lengths[1])
 		event, packet, err := agent.Fire(name, payload, false)
-		if err != nil || !bytes.Equal(event.Name, name) || !bytes.Equal(event.Payload, payload) {
+		if err != nil || event.Name != name || !bytes.Equal(event.Payload, payload) {
 			t.Fatal(lengths, err)
 		}
 		received, err := other.Receive(0, packet, false)
-		if err != nil || received.Event == nil || !bytes.Equal(received.Event.Name, name) || !bytes.Equal(received.Event.Payload, payload) {
+		if err != nil || received.Event == nil || received.Event.Name != name || !bytes.Equal(received.Event.Payload, payload) {
 			t.Fatal(lengths, received, err)
 		}
-		if event.Payload == nil || cap(event.Name) != len(event.Name) {
-			t.Error("a text's end is another's")
+		if event.Payload == nil || cap(event.Payload) != len(event.Payload) {
+			t.Error("more bytes follow the payload")
+		}
+	}
+}
+
+// A name can have any bytes, and every call passes all of them.
+func TestNamesOfAnyBytes(t *testing.T) {
+	for _, name := range []string{"", "a\x00b", "\x00", "\xff\xfe", "größer", strings.Repeat("\x00", nameBytes+1)} {
+		agent, _ := openTestAgent(t, "one")
+		other, _ := openTestAgent(t, "other")
+		event, packet, err := agent.Fire(name, []byte("v\x00"), false)
+		if err != nil || event.Name != name || string(event.Payload) != "v\x00" {
+			t.Fatalf("%q: %v %v", name, event, err)
+		}
+		if received, err := other.Receive(1, packet, false); err != nil || received.Event == nil || received.Event.Name != name {
+			t.Errorf("%q: %v %v", name, received, err)
+		}
+		var burst Burst
+		burst.Fire(name, []byte("v2"), false)
+		burst.Query(1, 7, name, nil, QueryParams{})
+		outcomes, err := agent.Burst(&burst)
+		if err != nil || outcomes[0].Fired.Event.Name != name || outcomes[1].FiredQuery.Query.Name != name {
+			t.Errorf("%q: %v %v", name, outcomes, err)
+		}
+		if query, err := agent.Query(1, 8, name, nil, QueryParams{}); err != nil || query.Query.Name != name || query.Query.Source != "one" {
+			t.Errorf("%q: %v %v", name, query, err)
+		}
+		intentPacket, err := Intent{Time: 3, Node: name}.Packet()
+		must(t, err)
+		if intent, err := IntentOf(intentPacket); err != nil || intent.Node != name {
+			t.Errorf("%q: %v %v", name, intent, err)
+		}
+		line, err := OpenLine(4, name, nil)
+		must(t, err)
+		if open, _, err := OpenEventsOf(append([]byte("#done 0\n"), line...)); err != nil || len(open) != 1 || open[0].Name != name {
+			t.Errorf("%q: %v %v", name, open, err)
 		}
 	}
 }
@@ -115,12 +151,12 @@ func TestEmptyBurstAndClosedAgent(t *testing.T) {
 	if outcomes, err := agent.Burst(&burst); err != nil || len(outcomes) != 0 {
 		t.Error(outcomes, err)
 	}
-	burst.Fire([]byte("x"), nil, false)
+	burst.Fire("x", nil, false)
 	burst.Reset()
 	if burst.Len() != 0 {
 		t.Error(burst.Len())
 	}
-	burst.Fire([]byte("x"), nil, false)
+	burst.Fire("x", nil, false)
 	agent.Close()
 	if outcomes, err := agent.Burst(&burst); err != Empty || len(outcomes) != 0 {
 		t.Error(outcomes, err)

@@ -25,21 +25,22 @@ func (a *Agent) closedAck(index, number C.size_t) (string, error) {
 			return "", err
 		}
 	}
-	return string(name), nil
+	return stringOf(name), nil
 }
 
 // closedResponse returns a response to a closed query.
-func (a *Agent) closedResponse(index, number C.size_t) (from, payload []byte, err error) {
+func (a *Agent) closedResponse(index, number C.size_t) (sender string, payload []byte, err error) {
 	var info C.struct_serf_agent_response
+	var from []byte
 	// The first call returns the lengths, and the second one the texts.
 	for i := 0; i < 2; i++ {
 		from, payload = make([]byte, info.from_len), make([]byte, info.payload_len)
 		code := C.serf_agent_closed_response(a.handle, index, number, &info, ptr(from), size(from), ptr(payload), size(payload))
 		if err = errorOf(code); err != nil {
-			return nil, nil, err
+			return "", nil, err
 		}
 	}
-	return from, payload, nil
+	return stringOf(from), payload, nil
 }
 
 // closedQuery returns a query that the last call closed, with its answers.

@@ -31,7 +31,7 @@ func Example() {
 	inFolder(func(folder string) {
 		alpha := mustOpen("alpha", filepath.Join(folder, "alpha.snapshot"))
 		defer alpha.Close()
-		_, packet, err := alpha.Fire([]byte("deploy"), []byte("v1"), false)
+		_, packet, err := alpha.Fire("deploy", []byte("v1"), false)
 		if err != nil {
 			log.Fatal(err)
 		}
@@ -61,7 +61,7 @@ func ExampleAgent_Merge() {
 		defer alpha.Close()
 		defer beta.Close()
 		for _, version := range []string{"v1", "v2"} {
-			if _, _, err := alpha.Fire([]byte("deploy"), []byte(version), false); err != nil {
+			if _, _, err := alpha.Fire("deploy", []byte(version), false); err != nil {
 				log.Fatal(err)
 			}
 		}
@@ -89,7 +89,7 @@ func ExampleAgent_Query() {
 		alpha, beta := mustOpen("alpha", filepath.Join(folder, "alpha.snapshot")), mustOpen("beta", filepath.Join(folder, "beta.snapshot"))
 		defer alpha.Close()
 		defer beta.Close()
-		query, err := alpha.Query(1, 7, []byte("load"), nil, QueryParams{Timeout: 1000})
+		query, err := alpha.Query(1, 7, "load", nil, QueryParams{Timeout: 1000})
 		if err != nil {
 			log.Fatal(err)
 		}

@@ -367,7 +367,7 @@ func TestLinesOfTheHost(t *testing.T) {
 			t.Fatal(err)
 		}
 		for i := 0; i < 3; i++ {
-			if _, _, err := agent.Fire([]byte("e"), nil, false); err != nil {
+			if _, _, err := agent.Fire("e", nil, false); err != nil {
 				t.Fatal(err)
 			}
 			if err := agent.AppendLines([]byte(fmt.Sprintf("alive: m%d.%d 1:1\n", life, i))); err != nil {

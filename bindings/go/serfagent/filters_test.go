@@ -25,7 +25,7 @@ func TestTagsPass(t *testing.T) {
 			filters = append(filters, []byte(filter))
 		}
 		firePacket := func() []byte {
-			query, err := firingAgent.Query(1, 7, []byte("who"), nil, QueryParams{Timeout: 1000, Filters: filters})
+			query, err := firingAgent.Query(1, 7, "who", nil, QueryParams{Timeout: 1000, Filters: filters})
 			must(t, err)
 			return query.Packet
 		}
@@ -45,12 +45,12 @@ func TestTagsPass(t *testing.T) {
 				t.Errorf("%q, %v, in a burst: %v %v", test.filters, passes, outcomes, err)
 			}
 			params := QueryParams{Timeout: 1000, WantAck: true, TagsPass: passes, Filters: filters}
-			own, err := agent.Query(1, 8, []byte("who"), nil, params)
+			own, err := agent.Query(1, 8, "who", nil, params)
 			if err != nil || (own.Query != nil) != test.wantHandedOut[i] || (own.Ack != nil) != test.wantHandedOut[i] {
 				t.Errorf("its own of %q, %v: %v %v", test.filters, passes, own, err)
 			}
 			burst.Reset()
-			burst.Query(1, 8, []byte("who"), nil, params)
+			burst.Query(1, 8, "who", nil, params)
 			outcomes, err = agent.Burst(&burst)
 			if err != nil || (outcomes[0].FiredQuery.Query != nil) != test.wantHandedOut[i] {
 				t.Errorf("its own of %q, %v, in a burst: %v %v", test.filters, passes, outcomes, err)

@@ -13,7 +13,7 @@ func TestForgottenQueries(t *testing.T) {
 	}
 	handOut := func(timeout time.Duration) uint64 {
 		t.Helper()
-		query, err := agent.Query(5, 7, []byte("load"), nil, QueryParams{Timeout: timeout})
+		query, err := agent.Query(5, 7, "load", nil, QueryParams{Timeout: timeout})
 		if err != nil {
 			t.Fatal(err)
 		}

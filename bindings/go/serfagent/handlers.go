@@ -34,8 +34,9 @@ func (a *Agent) Check() error {
 
 // OpenEvent is an event that was handed out and isn't done, according to a snapshot.
 type OpenEvent struct {
-	Time          uint64
-	Name, Payload []byte
+	Time    uint64
+	Name    string
+	Payload []byte
 	// HasBegun is true if the handler of the event has begun.
 	HasBegun bool
 }
@@ -60,7 +61,7 @@ func OpenEventsOf(text []byte) (open []OpenEvent, isTracked bool, err error) {
 	}
 	open = make([]OpenEvent, 0, sizes.events)
 	for _, event := range events[:sizes.events] {
-		name := texts[:event.name_len:event.name_len]
+		name := stringOf(texts[:event.name_len])
 		payload := texts[event.name_len : event.name_len+event.payload_len]
 		texts = texts[event.name_len+event.payload_len:]
 		open = append(open, OpenEvent{uint64(event.time), name, payload, bool(event.begun)})
@@ -86,14 +87,14 @@ func handlerLine(writeLine func(len *C.size_t, to []byte) C.uint32_t) ([]byte, e
 // OpenLine returns the line that marks an event as open in a text that replaces the file's text. This function and the
 // next three need no agent. They return Exhausted if the time is 2^64 - 1, which isn't valid, and OutOfMemory if memory
 // runs out.
-func OpenLine(time uint64, name, payload []byte) ([]byte, error) {
+func OpenLine(time uint64, name string, payload []byte) ([]byte, error) {
 	return handlerLine(func(length *C.size_t, to []byte) C.uint32_t {
 		return C.serf_agent_open_line(C.uint64_t(time), ptr(name), size(name), ptr(payload), size(payload), length, ptr(to), size(to))
 	})
 }
 
 // BegunLine returns the line that says that an event's handler has begun. Flush it before the handler starts.
-func BegunLine(time uint64, name, payload []byte) ([]byte, error) {
+func BegunLine(time uint64, name string, payload []byte) ([]byte, error) {
 	return handlerLine(func(length *C.size_t, to []byte) C.uint32_t {
 		return C.serf_agent_begun_line(C.uint64_t(time), ptr(name), size(name), ptr(payload), size(payload), length, ptr(to), size(to))
 	})
@@ -101,7 +102,7 @@ func BegunLine(time uint64, name, payload []byte) ([]byte, error) {
 
 // DoneLine returns the line that says that an event is done. You don't have to flush this line separately; the next
 // flush is early enough.
-func DoneLine(time uint64, name, payload []byte) ([]byte, error) {
+func DoneLine(time uint64, name string, payload []byte) ([]byte, error) {
 	return handlerLine(func(length *C.size_t, to []byte) C.uint32_t {
 		return C.serf_agent_done_line(C.uint64_t(time), ptr(name), size(name), ptr(payload), size(payload), length, ptr(to), size(to))
 	})

@@ -9,7 +9,7 @@ type Intent struct {
 	// time.
 	Time uint64
 	// Node is the name of the node that joins or leaves.
-	Node []byte
+	Node string
 	// Leave is true for a leave intent.
 	Leave bool
 	// Prune is true if the members should forget the node at once. Only leave intents can have it.
@@ -34,7 +34,7 @@ func IntentOf(packet []byte) (*Intent, error) {
 			return nil, err
 		}
 	}
-	return &Intent{uint64(info.time), node, bool(info.leave), bool(info.prune)}, nil
+	return &Intent{uint64(info.time), stringOf(node), bool(info.leave), bool(info.prune)}, nil
 }
 
 // Packet returns the packet of the intent, which you can send. It needs no agent. The error is Exhausted if the time is

@@ -12,9 +12,9 @@ var intents = []struct {
 	packet string
 	intent Intent
 }{
-	{"\x01\x82\xa5LTime\x01\xa4Node\xa4beta", Intent{1, []byte("beta"), false, false}},
-	{"\x00\x83\xa5LTime\x03\xa4Node\xa5gamma\xa5Prune\xc2", Intent{3, []byte("gamma"), true, false}},
-	{"\x00\x83\xa5LTime\x06\xa4Node\xa5delta\xa5Prune\xc3", Intent{6, []byte("delta"), true, true}},
+	{"\x01\x82\xa5LTime\x01\xa4Node\xa4beta", Intent{1, "beta", false, false}},
+	{"\x00\x83\xa5LTime\x03\xa4Node\xa5gamma\xa5Prune\xc2", Intent{3, "gamma", true, false}},
+	{"\x00\x83\xa5LTime\x06\xa4Node\xa5delta\xa5Prune\xc3", Intent{6, "delta", true, true}},
 }
 
 func TestIntents(t *testing.T) {
@@ -86,7 +86,7 @@ func TestQueryTime(t *testing.T) {
 	must(t, err)
 	defer agent.Close()
 	for time := uint64(1); time < 4; time++ {
-		query, err := agent.Query(0, 7, []byte("load"), nil, QueryParams{Timeout: 1000})
+		query, err := agent.Query(0, 7, "load", nil, QueryParams{Timeout: 1000})
 		if err != nil || query.Time != time || query.Query.Time != time {
 			t.Errorf("%v %v", query, err)
 		}

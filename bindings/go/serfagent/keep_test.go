@@ -12,7 +12,7 @@ func otherEvents(t *testing.T) [10][]byte {
 	var packets [10][]byte
 	other, _ := openTestAgent(t, "other")
 	for time := 1; time < len(packets); time++ {
-		_, packet, err := other.Fire([]byte(fmt.Sprint("e", time)), nil, false)
+		_, packet, err := other.Fire(fmt.Sprint("e", time), nil, false)
 		must(t, err)
 		packets[time] = packet
 	}

@@ -50,7 +50,7 @@ func TestLimitsOfQueriesAndResponses(t *testing.T) {
 		}
 		var fired *FiredQuery
 		query := longestPacket(t, test.wantQuery+1, func(payload []byte) (packet []byte, err error) {
-			if fired, err = agent.Query(1, 7, []byte("q"), payload, QueryParams{Timeout: time.Hour}); err == nil {
+			if fired, err = agent.Query(1, 7, "q", payload, QueryParams{Timeout: time.Hour}); err == nil {
 				packet = fired.Packet
 			}
 			return packet, err
@@ -114,13 +114,13 @@ func TestDefaultQueryTimeout(t *testing.T) {
 		t.Fatal(err)
 	}
 	defer agent.Close()
-	if _, err := agent.Query(1, 7, []byte("q"), nil, QueryParams{}); err != nil {
+	if _, err := agent.Query(1, 7, "q", nil, QueryParams{}); err != nil {
 		t.Fatal(err)
 	}
 	if deadline, isOpen, err := agent.NextDeadline(); err != nil || !isOpen || deadline != 1+uint64(DefaultQueryTimeout) {
 		t.Error(deadline, isOpen, err)
 	}
-	if _, err := agent.Query(2, 8, []byte("q"), nil, QueryParams{Timeout: -1}); err == nil {
+	if _, err := agent.Query(2, 8, "q", nil, QueryParams{Timeout: -1}); err == nil {
 		t.Error("a negative timeout is accepted")
 	}
 }

@@ -70,13 +70,11 @@ func (a *Agent) LocalState(statuses []Status, left []string) ([]byte, error) {
 	}
 	a.staleMembers = len(statuses)+len(left) > 0
 	for _, status := range statuses {
-		name := []byte(status.Name)
-		if err := errorOf(C.serf_agent_add_status(a.handle, ptr(name), size(name), C.uint64_t(status.Time))); err != nil {
+		if err := errorOf(C.serf_agent_add_status(a.handle, ptr(status.Name), size(status.Name), C.uint64_t(status.Time))); err != nil {
 			return nil, err
 		}
 	}
-	for _, member := range left {
-		name := []byte(member)
+	for _, name := range left {
 		if err := errorOf(C.serf_agent_add_left(a.handle, ptr(name), size(name))); err != nil {
 			return nil, err
 		}

@@ -4,7 +4,7 @@ package serfagent
 import "C"
 
 // Query fires a query. Choose id at random.
-func (a *Agent) Query(now uint64, id uint32, name, payload []byte, params QueryParams) (*FiredQuery, error) {
+func (a *Agent) Query(now uint64, id uint32, name string, payload []byte, params QueryParams) (*FiredQuery, error) {
 	a.mu.Lock()
 	defer a.mu.Unlock()
 	if err := a.forgetFilters(); err != nil {
@@ -76,8 +76,8 @@ func (a *Agent) pendingQuery(number C.uint64_t) (*PendingQuery, error) {
 		}
 	}
 	return &PendingQuery{
-		Number: uint64(number), Time: uint64(info.time), ID: uint32(info.id), Name: name, Payload: payload, Source: source,
-		Addr: addr, Port: uint16(info.port), RelayFactor: uint8(info.relay_factor), Deadline: uint64(info.deadline),
+		Number: uint64(number), Time: uint64(info.time), ID: uint32(info.id), Name: stringOf(name), Payload: payload,
+		Source: stringOf(source), Addr: addr, Port: uint16(info.port), RelayFactor: uint8(info.relay_factor), Deadline: uint64(info.deadline),
 	}, nil
 }
 
@@ -88,7 +88,7 @@ func (a *Agent) forgetFilters() error {
 		return nil
 	}
 	var params C.struct_serf_agent_params
-	return checkForgotten(C.serf_agent_query(a.handle, 0, 0, ptr(nil), 0, ptr(nil), 0, ptr(nil), 0, &params))
+	return checkForgotten(C.serf_agent_query(a.handle, 0, 0, &noByte, 0, &noByte, 0, &noByte, 0, &params))
 }
 
 // Respond answers a query that was handed out. It returns the packet of the response. Send it to the query's address

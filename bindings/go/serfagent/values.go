@@ -69,22 +69,28 @@ func (s *Settings) settingError(name string) error {
 	return BadConfig
 }
 
-// Event is an event that is handed out. Run its handler.
+// Event is an event that is handed out. Run its handler. The name can have any bytes. The name and the payload are parts
+// of one piece of memory, as are those of other short events of the same burst: to keep only a name, copy it by
+// strings.Clone.
 type Event struct {
-	Time          uint64
-	Name, Payload []byte
-	Coalesce      bool
+	Time     uint64
+	Name     string
+	Payload  []byte
+	Coalesce bool
 }
 
 // PendingQuery is a query that is handed out. Run its handler, and answer it by calling Respond with its Number.
 type PendingQuery struct {
-	Number, Time  uint64
-	ID            uint32
-	Name, Payload []byte
+	Number, Time uint64
+	ID           uint32
+	Name         string
+	Payload      []byte
 	// Source is the name of the node that fired the query. Addr and Port are the address to which responses are sent.
-	Source, Addr []byte
-	Port         uint16
-	RelayFactor  uint8
+	// Addr is the address in bytes, as in a net.IP, but it comes from the network and can have any length.
+	Source      string
+	Addr        []byte
+	Port        uint16
+	RelayFactor uint8
 	// Deadline is the last moment at which the query can be answered.
 	Deadline uint64
 }
@@ -144,9 +150,10 @@ func (r Reason) String() string { return wordOf(reasonWords, "Reason", uint32(r)
 // Answer is an ack or a response that was counted. It has the Lamport time and the ID of its query, the name of the
 // node that sent it, and the payload if it is a response.
 type Answer struct {
-	Time          uint64
-	ID            uint32
-	From, Payload []byte
+	Time    uint64
+	ID      uint32
+	From    string
+	Payload []byte
 }
 
 // Received is the result of a received packet. If Rebroadcast is true, send the packet on unchanged.
@@ -166,7 +173,8 @@ type Received struct {
 const DefaultQueryTimeout = 6400 * time.Millisecond
 
 // QueryParams are the parameters of a query to fire. Timeout is how long the agent accepts answers; 0 means
-// DefaultQueryTimeout. Addr and Port are the address to which answers are sent.
+// DefaultQueryTimeout. Addr and Port are the address to which answers are sent; Addr is the address in bytes, as in a
+// net.IP.
 type QueryParams struct {
 	Timeout              time.Duration
 	Addr                 []byte

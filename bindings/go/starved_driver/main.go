@@ -34,7 +34,7 @@ func printMerge(agent *serfagent.Agent, state []byte) {
 		check(err)
 	}
 	for _, event := range events {
-		fmt.Println(event.Time, string(event.Name))
+		fmt.Println(event.Time, event.Name)
 	}
 	fmt.Println(result)
 }
@@ -55,7 +55,7 @@ func printQuery(agent *serfagent.Agent, letter string) {
 	for number := 1; number <= 2; number++ {
 		params.Filters = append(params.Filters, []byte(fmt.Sprintf("\x00\x91\xa7node-%s%d", letter, number)))
 	}
-	query, err := agent.Query(1, 7, []byte("load"), nil, params)
+	query, err := agent.Query(1, 7, "load", nil, params)
 	if err != nil {
 		query = &serfagent.FiredQuery{}
 	}
@@ -75,12 +75,12 @@ func main() {
 	}
 	sender := open("one")
 	for i := 0; i < 5; i++ {
-		_, _, err := sender.Fire([]byte(fmt.Sprintf("e%d", i)), nil, false)
+		_, _, err := sender.Fire(fmt.Sprintf("e%d", i), nil, false)
 		check(err)
 	}
 	wholeState, err := sender.LocalState(nil, nil)
 	check(err)
-	load, err := sender.Query(1, 8, []byte("load"), nil, serfagent.QueryParams{Timeout: 9})
+	load, err := sender.Query(1, 8, "load", nil, serfagent.QueryParams{Timeout: 9})
 	check(err)
 	receiver := open("other")
 	printMerge(receiver, wholeState)

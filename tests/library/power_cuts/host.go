@@ -100,9 +100,9 @@ func (h *host) burst(words string) error {
 		case 'r':
 			burst.Receive(0, data, false)
 		case 'f':
-			burst.Fire(data, nil, false)
+			burst.Fire(string(data), nil, false)
 		default:
-			burst.Query(0, 7, data, nil, serfagent.QueryParams{Timeout: 1000, WantAck: true})
+			burst.Query(0, 7, string(data), nil, serfagent.QueryParams{Timeout: 1000, WantAck: true})
 		}
 	}
 	outcomes, err := h.agent.Burst(&burst)
@@ -127,7 +127,7 @@ func (h *host) merge(packet []byte, isJoin bool) error {
 	return err
 }
 
-func (h *host) fire(name []byte) error {
+func (h *host) fire(name string) error {
 	event, packet, err := h.agent.Fire(name, nil, false)
 	if err != nil {
 		return err
@@ -136,7 +136,7 @@ func (h *host) fire(name []byte) error {
 	return nil
 }
 
-func (h *host) query(name []byte) error {
+func (h *host) query(name string) error {
 	query, err := h.agent.Query(0, 7, name, nil, serfagent.QueryParams{Timeout: 1000, WantAck: true})
 	if err != nil {
 		return err
@@ -171,9 +171,9 @@ func (h *host) runAgentCall(call string, data []byte) error {
 	case "m", "j":
 		return h.merge(data, call == "j")
 	case "f":
-		return h.fire(data)
+		return h.fire(string(data))
 	case "q":
-		return h.query(data)
+		return h.query(string(data))
 	case "p":
 		return h.respond()
 	case "c":

@@ -10,9 +10,10 @@ import (
 
 // openEvent is an event that was handed out and isn't done.
 type openEvent struct {
-	time          uint64
-	name, payload []byte
-	hasBegun      bool
+	time     uint64
+	name     string
+	payload  []byte
+	hasBegun bool
 }
 
 // tracking keeps what the host knows about the handlers of its events, and writes the lines about them (docs/HOST.md,

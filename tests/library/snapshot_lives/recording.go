@@ -18,8 +18,7 @@ import (
 // recordPath reports the path of an agent's file to the recorder.
 func recordPath(a *Agent, store textStore) {
 	if file, ok := store.(*Store); ok {
-		path := []byte(file.path)
-		C.recorder_path(a.handle, ptr(path), size(path))
+		C.recorder_path(a.handle, ptr(file.path), size(file.path))
 	}
 }
 
