@@ -238,6 +238,11 @@ def in_rust(count, places):
         return
     stores.try_store(count, "Rust", places, [os.path.join(target, "debug", "examples", "store_driver")])
     example(count, "Rust", places, [os.path.join(target, "debug", "examples", "two_agents")])
+    driver = [os.path.join(target, "debug", "examples", "burst_driver")]
+    missing = places.of("missing")
+    sentence = f"Error: {missing}/one.snapshot: the folder of the file doesn't exist: No such file or directory (os error 2)\n"
+    ended = c_library.ran([*driver, missing])
+    count.check("Rust: an error that main returns is a sentence", ended == (1, sentence), ended)
     counted_tests(
         count,
         "Rust's tests",
@@ -245,13 +250,13 @@ def in_rust(count, places):
         ["cargo", "test", "--offline", "--tests"],
         **more,
     )
-    bursts.try_bursts(count, "Rust", places, [os.path.join(target, "debug", "examples", "burst_driver")])
+    bursts.try_bursts(count, "Rust", places, driver)
     more["env"]["SERF_AGENT_LIBRARY"] = places.starved
     status, output = c_library.ran(["cargo", "build", "--offline", "--example", "starved_driver", "--example", "burst_driver"], **more)
     count.check("Rust: the starved drivers build", status == 0, output[-2000:])
     if status == 0:
         starved.try_calls(count, "Rust", places, [os.path.join(target, "debug", "examples", "starved_driver")])
-        bursts.try_starved(count, "Rust", places, [os.path.join(target, "debug", "examples", "burst_driver")])
+        bursts.try_starved(count, "Rust", places, driver)
 
 
 def in_go(count, places):

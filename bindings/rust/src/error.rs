@@ -91,7 +91,9 @@ const CODES: [Code; 17] = [
 ];
 
 /// Why a call failed.
-#[derive(Debug)]
+///
+/// `{:?}` prints the same sentence as `{}`, so the sentence is what appears if `main` returns the error, or if `unwrap`
+/// panics. `{:#?}` prints the variant and its fields.
 #[non_exhaustive]
 pub enum Error {
     /// The library refused the call, and nothing has changed.
@@ -125,6 +127,23 @@ impl std::fmt::Display for Error {
             Error::Setting { field, value, min, max } => write!(to, "{field} is {value}, and must be between {min} and {max}"),
             Error::MergedInPart(events) => write!(to, "the merge ran out of memory; events that it accepted before: {}", events.len()),
             Error::Store(error) => error.fmt(to),
+        }
+    }
+}
+
+impl std::fmt::Debug for Error {
+    fn fmt(&self, to: &mut std::fmt::Formatter<'_>) -> std::fmt::Result {
+        if !to.alternate() {
+            return std::fmt::Display::fmt(self, to);
+        }
+        match self {
+            Error::Refused(code) => to.debug_tuple("Refused").field(code).finish(),
+            Error::Setting { field, value, min, max } => {
+                let mut fields = to.debug_struct("Setting");
+                fields.field("field", field).field("value", value).field("min", min).field("max", max).finish()
+            }
+            Error::MergedInPart(events) => to.debug_tuple("MergedInPart").field(events).finish(),
+            Error::Store(error) => to.debug_tuple("Store").field(error).finish(),
         }
     }
 }

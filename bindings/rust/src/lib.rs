@@ -13,7 +13,7 @@
 //!
 //! # fn handle(_: &serf_agent::Event) {}
 //! # fn packets() -> Vec<Vec<u8>> { Vec::new() }
-//! fn run() -> Result<(), Error> {
+//! fn main() -> Result<(), Error> {
 //!     let start = Instant::now();
 //!     let mut agent = Agent::open(b"alpha", "alpha.snapshot", Settings::default())?;
 //!     let fired = agent.fire(b"deploy", b"v1", false)?;
@@ -26,15 +26,10 @@
 //!     }
 //!     Ok(())
 //! }
-//!
-//! fn main() {
-//!     if let Err(error) = run() {
-//!         // For example "alpha.snapshot: another agent has the file, in process 4711".
-//!         eprintln!("{error}");
-//!         std::process::exit(1);
-//!     }
-//! }
 //! ```
+//!
+//! If a call fails, this program prints why, for example `Error: alpha.snapshot: another agent has the file, in process
+//! 4711`, and ends with status 1.
 
 #![warn(missing_docs, missing_debug_implementations)]
 

@@ -28,7 +28,8 @@ extern "C" {
 
 /// Why the file can't be opened, read or written. It has the kind of the error, the file's path, and the system's
 /// error.
-#[derive(Debug)]
+///
+/// `{:?}` prints the same sentence as `{}`, and `{:#?}` prints the fields, as for [`Error`](crate::Error).
 pub struct StoreError {
     path: PathBuf,
     kind: StoreErrorKind,
@@ -104,6 +105,16 @@ impl std::fmt::Display for StoreError {
             (_, _, Some(cause)) => write!(to, ": {cause}"),
             (_, _, None) => Ok(()),
         }
+    }
+}
+
+impl std::fmt::Debug for StoreError {
+    fn fmt(&self, to: &mut std::fmt::Formatter<'_>) -> std::fmt::Result {
+        if !to.alternate() {
+            return std::fmt::Display::fmt(self, to);
+        }
+        let mut fields = to.debug_struct("StoreError");
+        fields.field("path", &self.path).field("kind", &self.kind).field("owner", &self.owner).field("cause", &self.cause).finish()
     }
 }
 

@@ -46,13 +46,17 @@ fn an_error_has_its_path_and_its_cause() {
     let error = Agent::open(b"a", "/none/a", Settings::default()).unwrap_err();
     let expected = "/none/a: the folder of the file doesn't exist: No such file or directory (os error 2)";
     assert_eq!(error.to_string(), expected);
-    let shown = format!("{error:?}");
+    assert_eq!(format!("{error:?}"), expected);
+    let shown = format!("{error:#?}");
     assert!(
         error.source().is_none() && shown.contains("/none/a") && shown.contains("MissingFolder") && shown.contains("code: 2"),
         "{shown}"
     );
     match error {
-        Error::Store(error) => assert_eq!(error.cause().and_then(|cause| cause.raw_os_error()), Some(2)),
+        Error::Store(error) => {
+            assert_eq!(format!("{error:?}"), expected);
+            assert_eq!(error.cause().and_then(|cause| cause.raw_os_error()), Some(2));
+        }
         other => panic!("{other:?}"),
     }
     assert_eq!(Agent::open(b"a", "/proc", Settings::default()).unwrap_err().to_string().split(':').next(), Some("/proc"));
@@ -63,12 +67,15 @@ fn a_merge_in_part_is_shown_with_its_events() {
     let event = Event { time: 7, name: b"deploy".to_vec(), payload: Vec::new(), coalesce: false };
     let error = Error::MergedInPart(vec![event]);
     assert_eq!(error.to_string(), "the merge ran out of memory; events that it accepted before: 1");
-    assert!(error.source().is_none() && format!("{error:?}").contains("time: 7"));
+    assert_eq!(format!("{error:?}"), error.to_string());
+    assert!(error.source().is_none() && format!("{error:#?}").contains("time: 7"));
 }
 
 #[test]
 fn codes_and_reasons_are_sentences() {
     assert_eq!(Error::Refused(Code::NoTime).to_string(), "the query has no timeout");
+    assert_eq!(format!("{:?}", Error::Refused(Code::NoTime)), "the query has no timeout");
+    assert_eq!(format!("{:#?}", Error::Refused(Code::NoTime)), "Refused(\n    NoTime,\n)");
     assert_eq!(Code::NotPending.to_string(), "no query with this number is waiting for an answer");
     assert_eq!(Reason::Seen.to_string(), "the same event or query was accepted before");
 }
