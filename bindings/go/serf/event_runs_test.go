@@ -9,6 +9,7 @@ import (
 	"reflect"
 	"strings"
 	"testing"
+	"time"
 
 	"kitchenrue.example/serfagent"
 )
@@ -107,6 +108,30 @@ func TestEventRuns(t *testing.T) {
 	a = startNode(t, "a", folder, withTracking)
 	sameRuns(t, "the third life", a.compactNow(), want)
 	check(t, a.Shutdown())
+}
+
+// RecordProcess returns after its line is in the file, even if the node is busy, so that a kill right after that leaves
+// the line.
+func TestRecordProcessWaitsForItsLine(t *testing.T) {
+	a := startNode(t, "a", t.TempDir(), withTracking)
+	e := a.fireNew("deploy", nil)
+	must(t, a.Begin(e))
+	a.agentMu.Lock()
+	recorded := make(chan string)
+	go func() {
+		err := a.RecordProcess(e, HandlerProcess{"deploy", 4711, 12345, "0d-1"})
+		text, _ := os.ReadFile(a.snapshot.path)
+		recorded <- fmt.Sprint(err, " ", strings.Count(string(text), "\n#process 1 6465706c6f79  deploy 4711 12345 0d-1\n"))
+	}()
+	select {
+	case found := <-recorded:
+		t.Errorf("it doesn't wait: %s", found)
+	case <-time.After(100 * time.Millisecond):
+	}
+	a.agentMu.Unlock()
+	if found := <-recorded; found != "<nil> 1" {
+		t.Error(found)
+	}
 }
 
 // A compaction keeps the lines of the last handled events, up to a maximum number of events and of bytes. Earlier

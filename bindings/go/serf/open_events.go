@@ -152,8 +152,6 @@ func (o *openEvents) setProcess(e UserEvent, process HandlerProcess) error {
 		return ErrNotOpen
 	case state.begunCount == 0:
 		return ErrNotBegun
-	case o.isClosed:
-		return ErrEnded
 	}
 	state.process = &process
 	o.states[key] = state
@@ -404,17 +402,26 @@ func (s *Serf) DoneWith(event UserEvent, runs []HandlerRun) error {
 }
 
 // RecordProcess records which process runs a handler of an event. If the next life begins before the handler has ended,
-// its Unfinished returns the event with that process. Call RecordProcess after Begin, when the process has started. It
-// does not wait for the disk, because no process survives a power cut. It returns the same errors as Done, and
-// ErrNotBegun if Begin was not called. Serf has no such method.
+// its Unfinished returns the event with that process. Start the process so that it waits, call RecordProcess after
+// Begin, and let the process continue after RecordProcess has returned. So if this program is killed at any moment, the
+// next life knows each process that may still be running. The process must not continue if RecordProcess returns an
+// error.
+//
+// RecordProcess appends a line to the file, and does not wait for the disk, because no process survives a power cut. It
+// returns the same errors as Begin, except that it returns ErrNotBegun if Begin was not called. Serf has no such method.
 func (s *Serf) RecordProcess(event UserEvent, process HandlerProcess) error {
 	if s.openEvents == nil {
 		return nil
 	}
+	s.agentMu.Lock()
+	defer s.agentMu.Unlock()
+	if s.isEnded {
+		return ErrEnded
+	}
 	if err := s.openEvents.setProcess(event, process); err != nil {
 		return err
 	}
-	return s.appendSoon()
+	return s.appendWaitingLines()
 }
 
 // appendSoon appends the waiting lines. If the node is busy, it leaves them to appendDeferredLines.

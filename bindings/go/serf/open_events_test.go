@@ -109,7 +109,8 @@ func TestUnfinishedEvents(t *testing.T) {
 	check(t, a.Shutdown())
 }
 
-// After Shutdown was called, Begin returns an error, but Done still works for the handlers that are running.
+// After Shutdown was called, Begin and RecordProcess return an error, but Done still works for the handlers that are
+// running.
 func TestDoneDuringShutdown(t *testing.T) {
 	folder := t.TempDir()
 	a := startNode(t, "a", folder, withTracking)
@@ -120,6 +121,9 @@ func TestDoneDuringShutdown(t *testing.T) {
 	a.isEnded = true
 	a.agentMu.Unlock()
 	if err := a.Begin(waiting); err != ErrEnded {
+		t.Error(err)
+	}
+	if err := a.RecordProcess(running, HandlerProcess{"deploy", 4711, 12345, "0d-1"}); err != ErrEnded {
 		t.Error(err)
 	}
 	check(t, a.Done(running))
