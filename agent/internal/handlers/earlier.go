@@ -1,20 +1,12 @@
 package handlers
 
 import (
-	"bytes"
 	"context"
-	"fmt"
-	"os"
-	"path/filepath"
-	"strconv"
-	"syscall"
 	"time"
-
-	"kitchenrue.example/serf"
 )
 
 // A handler has a separate process group, so it may outlive its agent. The next life finds the handler by the process
-// that the snapshot names, or by the environment of its process.
+// that the snapshot names: no handler of a tracked event runs before its process is recorded there.
 
 // awaitResult is how awaitEarlier ended: the earlier handler has ended or isn't known, it is still running after the
 // timeout, or the agent is shutting down.
@@ -58,67 +50,4 @@ func (r *Runner) awaitEarlier(ctx context.Context, e Unfinished) awaitResult {
 		}
 	}
 	return earlierEnded
-}
-
-// earlierHandlers has the processes whose environments look like those of handlers of user events. The search runs
-// once, when a process is first needed.
-type earlierHandlers struct {
-	isSearched bool
-	found      []earlierHandler
-}
-
-type earlierHandler struct {
-	pid         int
-	environment map[string]string
-}
-
-// find returns the process of a handler that an earlier life started for an event, or nil. It is needed if that life
-// was killed before it could record the process.
-func (h *earlierHandlers) find(node string, e serf.UserEvent) *serf.HandlerProcess {
-	if !h.isSearched {
-		h.isSearched, h.found = true, searchHandlers()
-	}
-	for _, handler := range h.found {
-		if handler.environment["SERF_SELF_NAME"] == node && handler.environment["SERF_USER_EVENT"] == e.Name &&
-			handler.environment["SERF_USER_LTIME"] == fmt.Sprint(e.LTime) {
-			if process, err := serf.ProcessOf("", handler.pid); err == nil {
-				return &process
-			}
-		}
-	}
-	return nil
-}
-
-// searchHandlers returns the processes that an agent may have started as handlers of user events.
-func searchHandlers() (found []earlierHandler) {
-	paths, _ := filepath.Glob("/proc/[0-9]*/environ")
-	for _, path := range paths {
-		text, err := os.ReadFile(path)
-		pid, pidErr := strconv.Atoi(filepath.Base(filepath.Dir(path)))
-		if err != nil || pidErr != nil || !isHandlerProcess(pid) {
-			continue
-		}
-		environment := map[string]string{}
-		for _, variable := range bytes.Split(text, []byte{0}) {
-			if key, value, ok := bytes.Cut(variable, []byte("=")); ok && bytes.HasPrefix(key, []byte("SERF_")) {
-				environment[string(key)] = string(value)
-			}
-		}
-		if environment["SERF_USER_EVENT"] != "" || environment["SERF_USER_LTIME"] != "" {
-			found = append(found, earlierHandler{pid, environment})
-		}
-	}
-	return found
-}
-
-// isHandlerProcess reports whether a process leads a process group but not a session. The agent starts its handlers
-// this way. A process that a handler left in the background leads neither, and a service that a handler started leads
-// both.
-func isHandlerProcess(pid int) bool {
-	group, err := syscall.Getpgid(pid)
-	if err != nil || group != pid {
-		return false
-	}
-	session, _, errno := syscall.RawSyscall(syscall.SYS_GETSID, uintptr(pid), 0, 0)
-	return errno == 0 && int(session) != pid
 }

@@ -3,11 +3,9 @@ package handlers
 import (
 	"fmt"
 	"io"
-	"os"
 	"os/exec"
 	"path/filepath"
 	"strings"
-	"syscall"
 	"testing"
 	"time"
 
@@ -16,10 +14,9 @@ import (
 )
 
 // startEarlierHandler starts a process as a handler of an earlier life, which runs until end is called.
-func startEarlierHandler(t *testing.T, attributes *syscall.SysProcAttr, environment ...string) (process serf.HandlerProcess, end func()) {
+func startEarlierHandler(t *testing.T) (process serf.HandlerProcess, end func()) {
 	t.Helper()
 	command := exec.Command("/bin/sh", "-c", "read line")
-	command.SysProcAttr, command.Env = attributes, append(os.Environ(), environment...)
 	input, err := command.StdinPipe()
 	testkit.Must(t, err)
 	testkit.Must(t, command.Start())
@@ -49,7 +46,7 @@ func cutOffIn(name string, process serf.HandlerProcess) serf.UnfinishedEvent {
 func TestEarlierHandlerIsAwaited(t *testing.T) {
 	t.Parallel()
 	for _, kind := range []string{"rerun", "unfinished"} {
-		process, end := startEarlierHandler(t, nil)
+		process, end := startEarlierHandler(t)
 		ran := filepath.Join(t.TempDir(), "ran")
 		r, tracker, output := trackedRunner(t, time.Minute, kind+":deploy=echo ran >"+ran)
 		r.Resume([]serf.UnfinishedEvent{cutOffIn("deploy", process), unfinishedEvent("deploy", "gone", 2)})
@@ -77,7 +74,7 @@ func TestEarlierHandlerIsAwaited(t *testing.T) {
 // agent ends meanwhile, the event stays open.
 func TestEarlierHandlerThatDoesNotEnd(t *testing.T) {
 	t.Parallel()
-	process, _ := startEarlierHandler(t, nil)
+	process, _ := startEarlierHandler(t)
 	r, tracker, output := trackedRunner(t, 200*time.Millisecond, "rerun:deploy=echo ran")
 	r.Resume([]serf.UnfinishedEvent{cutOffIn("deploy", process)})
 	tracker.waitUntil(t, "done a before=still-running")
@@ -99,7 +96,7 @@ func TestEarlierHandlerThatDoesNotEnd(t *testing.T) {
 // If nothing runs for the event, the agent reports whether the earlier handler is still running.
 func TestEarlierHandlerIsReported(t *testing.T) {
 	t.Parallel()
-	process, end := startEarlierHandler(t, nil)
+	process, end := startEarlierHandler(t)
 	for _, isRunning := range []bool{true, false} {
 		r, tracker, output := trackedRunner(t, 0, "user:deploy=echo ran")
 		r.Resume([]serf.UnfinishedEvent{cutOffIn("deploy", process)})
@@ -115,44 +112,6 @@ func TestEarlierHandlerIsReported(t *testing.T) {
 		}
 		r.Close(time.Minute)
 		end()
-	}
-}
-
-// An agent that is killed before it records the process of a handler leaves that process running. The next life finds it by
-// the environment of its event, and by its process group, which it leads. Processes that the handler itself started are not
-// taken for the handler.
-func TestEarlierHandlerIsFoundByItsEnvironment(t *testing.T) {
-	t.Parallel()
-	environmentOf := func(node, event string, time int) []string {
-		return []string{"SERF_SELF_NAME=" + node, "SERF_USER_EVENT=" + event, fmt.Sprintf("SERF_USER_LTIME=%d", time)}
-	}
-	node := fmt.Sprintf("finder-%d", os.Getpid())
-	process, _ := startEarlierHandler(t, &syscall.SysProcAttr{Setpgid: true}, environmentOf(node, "deploy", 7)...)
-	startEarlierHandler(t, nil, environmentOf(node, "background", 7)...)
-	startEarlierHandler(t, &syscall.SysProcAttr{Setsid: true}, environmentOf(node, "service", 7)...)
-	startEarlierHandler(t, &syscall.SysProcAttr{Setpgid: true})
-	for _, test := range []struct {
-		node, event string
-		time        int
-		isFound     bool
-	}{
-		{node, "deploy", 7, true}, {node, "deploy", 8, false}, {node, "deplo", 7, false}, {node + "2", "deploy", 7, false},
-		{node, "background", 7, false}, {node, "service", 7, false},
-	} {
-		var handlers earlierHandlers
-		found := handlers.find(test.node, serf.UserEvent{Name: test.event, LTime: serf.LamportTime(test.time)})
-		if (found != nil) != test.isFound ||
-			found != nil && (found.PID != process.PID || found.Start != process.Start || !found.IsRunning()) {
-			t.Errorf("%v: %v", test, found)
-		}
-	}
-	r, tracker, output := trackedRunner(t, 0, "rerun:deploy=echo ran")
-	r.self = func() Self { return Self{Name: node} }
-	r.Resume([]serf.UnfinishedEvent{unfinishedEvent("deploy", "a", 1)})
-	testkit.Eventually(t, "it waits", func() bool { return output.Has("waits for its end") })
-	r.Close(0)
-	if calls := tracker.list(); calls != "" {
-		t.Error(calls)
 	}
 }
 

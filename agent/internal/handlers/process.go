@@ -100,45 +100,110 @@ func (r scriptResult) lastOutput() string {
 // notStarted is the error of a script that could not be started.
 type notStarted struct{ error }
 
-// runScript runs a command in a shell that has a separate process group, until the command ends or ctx does. After the
-// process was started, runScript calls started with its process ID.
-func runScript(ctx context.Context, command string, env []string, stdin []byte, started func(pid int)) scriptResult {
-	cmd := exec.Command("/bin/sh", "-c", command)
-	cmd.Env = append(os.Environ(), env...)
-	cmd.SysProcAttr = &syscall.SysProcAttr{Setpgid: true}
-	pipes, err := openPipes(cmd)
-	if err != nil {
-		return scriptResult{err: notStarted{err}}
+// heldPrefix precedes the command of a script that is held. The shell first reads a line. If there is none, because the
+// agent was killed or doesn't release the script, the shell ends before the script's first command. A shell reads no
+// byte after a line, so the script gets the rest as its input. The prefix has no newline, so the numbers of lines in
+// the shell's messages are those of the script.
+const heldPrefix = "read -r SERF_BEGUN || exit; unset SERF_BEGUN; "
+
+// shell is a shell that was started for a script.
+type shell struct {
+	cmd   *exec.Cmd
+	pipes *pipes
+	// pendingInput is the input that still has to be written into the pipe, or nil.
+	pendingInput []byte
+	// began is when the shell was started, or released if it was held.
+	began time.Time
+	// process describes the shell's process if the shell is held. processErr is set if the process can't be described.
+	process    serf.HandlerProcess
+	processErr error
+	// err is set if the shell could not be started.
+	err error
+}
+
+// startShell starts a shell for a command. The shell has a separate process group. If isHeld is true, the shell waits
+// at its start, and nothing of the command runs before release is called. Call finish or drop afterwards.
+func startShell(command string, env []string, stdin []byte, isHeld bool) *shell {
+	if isHeld {
+		command = heldPrefix + command
 	}
-	defer pipes.close()
-	isWritten := pipes.writeFirst(stdin)
-	if err := cmd.Start(); err != nil {
-		return scriptResult{err: notStarted{err}}
+	s := &shell{cmd: exec.Command("/bin/sh", "-c", command), pendingInput: stdin, began: time.Now()}
+	s.cmd.Env = append(os.Environ(), env...)
+	s.cmd.SysProcAttr = &syscall.SysProcAttr{Setpgid: true}
+	if s.pipes, s.err = openPipes(s.cmd); s.err != nil {
+		return s
 	}
-	// (the process ID can't be reused before waitFor)
-	started(cmd.Process.Pid)
-	pipes.closeChildEnds()
-	if !isWritten {
-		go pipes.writeInput(stdin)
+	if isHeld {
+		s.pendingInput = append([]byte{'\n'}, stdin...)
+	} else {
+		s.writeShortInput()
+	}
+	if s.err = s.cmd.Start(); s.err != nil {
+		s.pipes.close()
+		return s
+	}
+	s.pipes.closeChildEnds()
+	return s
+}
+
+// release lets a shell that is held run its script. The shell gets the line for which it waits and the script's input
+// in one piece if they fit. So if the agent is killed meanwhile, the script has its whole input, or doesn't run.
+func (s *shell) release() {
+	if s.err == nil {
+		s.began = time.Now()
+		s.writeShortInput()
+	}
+}
+
+// drop ends a shell that is held, so that nothing of its script runs. s may be nil.
+func (s *shell) drop() {
+	if s == nil || s.err != nil {
+		return
+	}
+	defer s.pipes.close()
+	_ = s.cmd.Process.Kill()
+	endsWithin(waitInBackground(s.cmd), killDelay)
+}
+
+// finish waits until the script ends or ctx does. In the second case, it ends the script. It returns the script's
+// result.
+func (s *shell) finish(ctx context.Context) scriptResult {
+	if s.err != nil {
+		return scriptResult{err: notStarted{s.err}}
+	}
+	defer s.pipes.close()
+	if s.pendingInput != nil {
+		go s.pipes.writeInput(s.pendingInput)
 	}
 	outputDone := make(chan *lastBytes, 1)
 	go func() {
 		var output lastBytes
 		// Reading ends when the script ends, or at the deadline below.
-		_, _ = io.Copy(&output, pipes.outputRead)
+		_, _ = io.Copy(&output, s.pipes.outputRead)
 		outputDone <- &output
 	}()
-	err = waitFor(ctx, cmd)
+	err := waitFor(ctx, s.cmd)
 	// A process that the script left in the background may hold its output open.
-	_ = pipes.outputRead.SetReadDeadline(time.Now().Add(outputDelay))
+	_ = s.pipes.outputRead.SetReadDeadline(time.Now().Add(outputDelay))
 	output := <-outputDone
 	return scriptResult{output.bytes, output.total, err}
 }
 
+// pipeCapacity is a number of bytes that every pipe can hold before anybody reads them. Nobody can read only a part of
+// so many bytes that were written at once.
+const pipeCapacity = 4096
+
+// writeShortInput writes the input into the pipe if it fits. finish writes a longer one.
+func (s *shell) writeShortInput() {
+	if len(s.pendingInput) <= pipeCapacity {
+		s.pipes.writeInput(s.pendingInput)
+		s.pendingInput = nil
+	}
+}
+
 // waitFor waits for the command's end. If ctx ends first, it ends the command's process group.
 func waitFor(ctx context.Context, cmd *exec.Cmd) error {
-	ended := make(chan error, 1)
-	go func() { ended <- cmd.Wait() }()
+	ended := waitInBackground(cmd)
 	select {
 	case err := <-ended:
 		return err
@@ -156,6 +221,13 @@ func waitFor(ctx context.Context, cmd *exec.Cmd) error {
 		return ErrTimeout
 	}
 	return ErrCutOff
+}
+
+// waitInBackground returns a channel that receives the command's error when the command has ended.
+func waitInBackground(cmd *exec.Cmd) <-chan error {
+	ended := make(chan error, 1)
+	go func() { ended <- cmd.Wait() }()
+	return ended
 }
 
 // endsWithin waits at most timeout for the end, and reports whether the end was reached.
@@ -189,19 +261,6 @@ func openPipes(cmd *exec.Cmd) (*pipes, error) {
 	}
 	cmd.Stdin, cmd.Stdout, cmd.Stderr = p.stdinRead, p.outputWrite, p.outputWrite
 	return p, nil
-}
-
-// pipeCapacity is a number of bytes that every pipe can hold before anybody reads them.
-const pipeCapacity = 4096
-
-// writeFirst writes the input into the pipe before the script starts, if it fits. Then the script has its whole input
-// even if the agent is killed. writeFirst reports whether the input fits.
-func (p *pipes) writeFirst(stdin []byte) bool {
-	if len(stdin) > pipeCapacity {
-		return false
-	}
-	p.writeInput(stdin)
-	return true
 }
 
 // writeInput writes the input. If the script doesn't read it, the write ends when close closes the pipe.

@@ -2,6 +2,7 @@ package handlers
 
 import (
 	"context"
+	"errors"
 	"fmt"
 	"log"
 	"os/exec"
@@ -183,43 +184,75 @@ func (r *Runner) handle(ctx context.Context, e serf.Event) {
 		r.handleTracked(ctx, e)
 		return
 	}
-	r.runAll(ctx, r.runsFor(e))
+	r.runAll(ctx, r.runsFor(e), nil)
 }
 
-// runAll runs scripts. It returns how they ended. isWhole is false if the agent's end cut off one of them or kept one
-// from running.
-func (r *Runner) runAll(ctx context.Context, runs []scriptRun) (ended []serf.HandlerRun, isWhole bool) {
+// runAll runs scripts. first is the shell of the first script if that shell was started already, or nil. runAll returns
+// how the scripts ended. isWhole is false if the agent's end cut off one of them or kept one from running.
+func (r *Runner) runAll(ctx context.Context, runs []scriptRun, first *shell) (ended []serf.HandlerRun, isWhole bool) {
 	isWhole = true
 	for _, run := range runs {
-		if ctx.Err() != nil {
+		s := first
+		first = nil
+		if s == nil && ctx.Err() == nil {
+			s = r.start(run)
+		}
+		if err := r.permit(ctx, run, s); err != nil {
+			s.drop()
 			isWhole = false
 			r.counts.countResult(run.script, NeverRun)
-			r.log.Printf(
-				"[WARN] agent: the handler %q of %s was not run, since the agent is shutting down", run.script.Command, describe(run.event),
-			)
+			r.log.Printf("[WARN] agent: the handler %q of %s was not run: %v", run.script.Command, describe(run.event), err)
 			continue
 		}
-		result := r.run(ctx, run)
+		result := r.finish(ctx, run, s)
 		ended = append(ended, serf.HandlerRun{Handler: run.name(), Status: result.status()})
 		isWhole = result.kind() != CutOff && isWhole
 	}
 	return ended, isWhole
 }
 
-// run runs a script, and returns its result.
-func (r *Runner) run(ctx context.Context, run scriptRun) scriptResult {
+// start starts the shell of a script. If the event is tracked, the shell is held.
+func (r *Runner) start(run scriptRun) *shell {
+	isHeld := r.isTracked(run.event)
+	s := startShell(run.script.Command, environment(r.self(), run.event), standardInput(run.event), isHeld)
+	if isHeld && s.err == nil {
+		s.process, s.processErr = serf.ProcessOf(run.name(), s.cmd.Process.Pid)
+	}
+	return s
+}
+
+// errShuttingDown is why a script was not run.
+var errShuttingDown = errors.New("the agent is shutting down")
+
+// permit lets a script run. If the event is tracked, its shell is held, and permit first records the shell's process. If
+// permit returns an error, the script must not run. s is nil if no shell was started, since the agent is shutting down.
+func (r *Runner) permit(ctx context.Context, run scriptRun, s *shell) error {
+	switch isHeld := r.isTracked(run.event); {
+	case s == nil || isHeld && ctx.Err() != nil:
+		return errShuttingDown
+	case !isHeld:
+		return nil
+	}
+	if err := r.recordProcess(run, s); err != nil {
+		return err
+	}
+	s.release()
+	return nil
+}
+
+// finish waits for the end of a script that may run, and returns its result.
+func (r *Runner) finish(ctx context.Context, run scriptRun, s *shell) scriptResult {
 	script, e := run.script, run.event
 	if r.timeout > 0 {
 		var cancel context.CancelFunc
 		ctx, cancel = context.WithTimeout(ctx, r.timeout)
 		defer cancel()
 	}
-	began := time.Now()
-	result := runScript(ctx, script.Command, environment(r.self(), e), standardInput(e), func(pid int) { r.recordProcess(run, pid) })
-	metrics.MeasureSince([]string{"agent", "invoke", script.Command}, began)
-	metrics.MeasureSinceWithLabels([]string{"agent", "handler", "duration"}, began, []metrics.Label{{Name: "handler", Value: script.Name}})
+	result := s.finish(ctx)
+	metrics.MeasureSince([]string{"agent", "invoke", script.Command}, s.began)
+	metrics.MeasureSinceWithLabels([]string{"agent", "handler", "duration"}, s.began, []metrics.Label{{Name: "handler", Value: script.Name}})
 	r.counts.countResult(script, result.kind())
-	took := time.Since(began).Round(time.Millisecond)
+	took := time.Since(s.began).Round(time.Millisecond)
 	if took > slowHandler && result.err == nil {
 		r.log.Printf("[WARN] agent: the handler %q of %s took %v", script.Command, e, took)
 	}

@@ -3,10 +3,8 @@ package handlers
 import (
 	"bytes"
 	"fmt"
-	"io"
 	"log"
 	"os"
-	"os/exec"
 	"path/filepath"
 	"strings"
 	"testing"
@@ -102,23 +100,6 @@ func TestScriptsThatDoNotEnd(t *testing.T) {
 			})
 			r.Close(time.Minute)
 		})
-	}
-}
-
-// A short input is in the pipe before the script starts. So the script has all of it even if the agent is killed then.
-func TestShortInputIsWrittenFirst(t *testing.T) {
-	for length, isFirst := range map[int]bool{0: true, 2: true, pipeCapacity: true, pipeCapacity + 1: false} {
-		p, err := openPipes(exec.Command("true"))
-		testkit.Must(t, err)
-		defer p.close()
-		if p.writeFirst(make([]byte, length)) != isFirst {
-			t.Error(length)
-		}
-		if isFirst {
-			if found, err := io.ReadAll(p.stdinRead); err != nil || len(found) != length {
-				t.Error(length, len(found), err)
-			}
-		}
 	}
 }
 

@@ -15,7 +15,8 @@ type Tracker interface {
 	// same for an event whose handlers already began in an earlier life.
 	Begin(serf.UserEvent) error
 	BeginAgain(serf.UserEvent) error
-	// RecordProcess records which process runs a handler of an event that has begun.
+	// RecordProcess records which process runs a handler of an event that has begun. If it returns an error, that
+	// handler must not run.
 	RecordProcess(serf.UserEvent, serf.HandlerProcess) error
 	// DoneWith records that the handlers of an event have ended, and how each of them ended. It also records that an
 	// event without handlers is done.
@@ -124,15 +125,11 @@ func (r *Runner) isTracked(e serf.Event) bool {
 // the filters unfinished and rerun then run for it, once in all lives. Call Resume before the first Add.
 func (r *Runner) Resume(events []serf.UnfinishedEvent) {
 	waiting := 0
-	var earlier earlierHandlers
 	for _, e := range events {
 		if !e.HasBegun {
 			waiting++
 			r.Add(e.UserEvent)
 			continue
-		}
-		if e.Process == nil {
-			e.Process = earlier.find(r.self().Name, e.UserEvent)
 		}
 		r.resumeCutOff(e)
 	}
@@ -232,32 +229,46 @@ func (r *Runner) handleTracked(ctx context.Context, e serf.Event) {
 		earlierRuns = []serf.HandlerRun{cutOffRun(cutOff.process, false)}
 	}
 	runs := r.runsFor(e)
+	var first *shell
 	if len(runs) > 0 {
-		if err := begin(event); err != nil {
-			if !errors.Is(err, serf.ErrEnded) {
-				r.log.Printf("[ERR] agent: no handler was run for %s: %v", describe(e), err)
-			}
+		if first = r.startAndBegin(runs[0], begin); first == nil {
 			return
 		}
 	}
-	if ended, isWhole := r.runAll(ctx, runs); isWhole {
+	if ended, isWhole := r.runAll(ctx, runs, first); isWhole {
 		r.reportDone(event, append(earlierRuns, ended...))
 	}
 }
 
-// recordProcess reports to the tracker which process runs a handler.
-func (r *Runner) recordProcess(run scriptRun, pid int) {
-	if !r.isTracked(run.event) {
-		return
-	}
+// startAndBegin starts the shell of an event's first script, and meanwhile records that the event begins, since both
+// take about as long. The shell is held. If the beginning can't be recorded, startAndBegin ends the shell and returns
+// nil.
+func (r *Runner) startAndBegin(run scriptRun, begin func(serf.UserEvent) error) *shell {
 	event, _ := userEvent(run.event)
-	process, err := serf.ProcessOf(run.name(), pid)
-	if err == nil {
-		err = r.tracker.RecordProcess(event, process)
+	begun := make(chan error, 1)
+	go func() { begun <- begin(event) }()
+	s := r.start(run)
+	if err := <-begun; err != nil {
+		s.drop()
+		if !errors.Is(err, serf.ErrEnded) {
+			r.log.Printf("[ERR] agent: no handler was run for %s: %v", describe(run.event), err)
+		}
+		return nil
 	}
-	if err != nil && !errors.Is(err, serf.ErrEnded) {
-		r.log.Printf("[WARN] agent: the process of a handler of %s was not recorded: %v", event, err)
+	return s
+}
+
+// recordProcess reports to the tracker which process runs a handler. It returns the tracker's error.
+func (r *Runner) recordProcess(run scriptRun, s *shell) error {
+	event, _ := userEvent(run.event)
+	switch {
+	case s.err != nil:
+		return nil
+	case s.processErr != nil:
+		r.log.Printf("[WARN] agent: the process of a handler of %s was not recorded: %v", event, s.processErr)
+		return nil
 	}
+	return r.tracker.RecordProcess(event, s.process)
 }
 
 // reportDone reports to the tracker that an event is done.

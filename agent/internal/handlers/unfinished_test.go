@@ -21,8 +21,10 @@ type fakeTracker struct {
 	calls []string
 	// processes are those that were recorded.
 	processes []serf.HandlerProcess
-	// err is what Begin returns.
-	err error
+	// err is what Begin returns, and recordErr what RecordProcess returns.
+	err, recordErr error
+	// onBegin and onRecord are called by Begin and RecordProcess before they return, if they are set.
+	onBegin, onRecord func()
 }
 
 // call records a call of the tracker.
@@ -34,6 +36,9 @@ func (f *fakeTracker) call(name string, e serf.UserEvent) {
 
 func (f *fakeTracker) Begin(e serf.UserEvent) error {
 	f.call("begin", e)
+	if f.onBegin != nil {
+		f.onBegin()
+	}
 	return f.err
 }
 
@@ -44,9 +49,12 @@ func (f *fakeTracker) BeginAgain(e serf.UserEvent) error {
 
 func (f *fakeTracker) RecordProcess(e serf.UserEvent, process serf.HandlerProcess) error {
 	f.mu.Lock()
-	defer f.mu.Unlock()
 	f.processes = append(f.processes, process)
-	return nil
+	f.mu.Unlock()
+	if f.onRecord != nil {
+		f.onRecord()
+	}
+	return f.recordErr
 }
 
 func (f *fakeTracker) DoneWith(e serf.UserEvent, runs []serf.HandlerRun) error {
@@ -261,11 +269,11 @@ func TestFiltersOfHandlers(t *testing.T) {
 func TestRunAll(t *testing.T) {
 	r, _ := newRunner(t, 0, "true", "true")
 	ended, cancel := context.WithCancel(context.Background())
-	if runs, isWhole := r.runAll(ended, r.runsFor(userEventOf("deploy", ""))); !isWhole || fmt.Sprint(runs) != "[{true 0} {true-2 0}]" {
+	if runs, isWhole := r.runAll(ended, r.runsFor(userEventOf("deploy", "")), nil); !isWhole || fmt.Sprint(runs) != "[{true 0} {true-2 0}]" {
 		t.Error("two scripts that ended are not whole", runs)
 	}
 	cancel()
-	if runs, isWhole := r.runAll(ended, r.runsFor(userEventOf("deploy", ""))); isWhole || len(runs) > 0 || r.Results()[NeverRun] != 2 {
+	if runs, isWhole := r.runAll(ended, r.runsFor(userEventOf("deploy", "")), nil); isWhole || len(runs) > 0 || r.Results()[NeverRun] != 2 {
 		t.Error(r.Results(), runs)
 	}
 	if !errors.Is(ended.Err(), context.Canceled) {
