@@ -3,6 +3,7 @@ package app
 import (
 	"os"
 	"path/filepath"
+	"sort"
 	"strconv"
 	"syscall"
 	"testing"
@@ -46,6 +47,35 @@ func BenchmarkHandlers(b *testing.B) {
 				testkit.Check(b, a.Close())
 			}
 			b.ReportMetric(float64(processor.Milliseconds())/float64(b.N), "processor-ms/op")
+		})
+	}
+}
+
+// BenchmarkHandledFile measures how large the snapshot is while the handler `true` handles events, of which about a
+// thousand wait. The number of the events is that of -benchtime.
+func BenchmarkHandledFile(b *testing.B) {
+	for _, flag := range []string{"-track-handlers", "-track-handlers=false"} {
+		b.Run(flag, func(b *testing.B) {
+			path := filepath.Join(b.TempDir(), "snapshot")
+			a, _ := startApp(b, "-keep-events", "-log-level", "err", "-snapshot", path, "-event-handler", "user:x=true", flag)
+			var sizes []int
+			measure := func() {
+				info, err := os.Stat(path)
+				testkit.Must(b, err)
+				sizes = append(sizes, int(info.Size()))
+			}
+			for i := 0; i < b.N; i++ {
+				testkit.Must(b, a.Fire("x", []byte("v42"), false))
+				for waiting, _ := a.runner.Waiting(); waiting > 1000; waiting, _ = a.runner.Waiting() {
+					time.Sleep(10 * time.Millisecond)
+					measure()
+				}
+			}
+			testkit.Eventually(b, "all events are handled", func() bool { measure(); return a.Stats()["agent"]["handlers_ok"] == strconv.Itoa(b.N) })
+			sort.Ints(sizes)
+			b.ReportMetric(float64(sizes[len(sizes)/2])/1024, "median-KiB")
+			b.ReportMetric(float64(sizes[len(sizes)-1])/1024, "max-KiB")
+			testkit.Check(b, a.Close())
 		})
 	}
 }
