@@ -1,6 +1,7 @@
 """By hand, since it kills and starts an agent for minutes: what becomes of each event that an agent with `-keep-events` confirmed.
 
-    tests/by_hand/once.py [--kills N] [--seed S] [--events N] [--rerun | --without] [--agent PROGRAM] [--library FOLDER] [--keep]
+    tests/by_hand/once.py [--kills N] [--seed S] [--events N] [--rerun | --without] [--slow-flush MILLISECONDS] [--agent PROGRAM]
+                          [--library FOLDER] [--keep]
 
 Fires numbered events at one agent by `serf event`, faster than its handler runs, and kills it by SIGKILL at random moments, every
 second time together with the handler. The handler takes 10 to 90 milliseconds, and writes a line when it begins and when it ends.
@@ -9,8 +10,9 @@ Each start is on the same snapshot. After the last start, the script waits until
 Then each event that `serf event` confirmed ran once, or its handler began, was cut off, and a start reported that. No event began
 twice: with `--rerun`, the handler may run again after it was cut off, and then one event may begin twice. An event that was not
 confirmed may have run too, once at most. `--events` is the number of events of each life. `--without` turns the tracking of handlers
-off, as a measure, and the script then fails: most of what was waiting is lost. It needs Go, memberlist and Debian's `serf`, or
-`--agent` and `serf`.
+off, as a measure, and the script then fails: most of what was waiting is lost. With `--slow-flush`, `strace` makes each flush of the
+agent take longer by so many milliseconds. Then many kills come while the shell of a handler has started and waits for the flush of the
+line of its beginning; the script counts these kills. It needs Go, memberlist and Debian's `serf`, or `--agent` and `serf`.
 """
 
 import argparse
@@ -51,6 +53,21 @@ def children(pid):
     return found
 
 
+def is_held(pid):
+    """Whether the shell of a handler waits for the flush: it reads from its pipe."""
+    try:
+        with open(f"/proc/{pid}/wchan", encoding="utf-8") as file:
+            return file.read().endswith("pipe_read")
+    except OSError:
+        return False
+
+
+def with_slow_flushes(program, milliseconds):
+    """The words that start a program whose flushes take longer. The tracer isn't its parent, and doesn't trace what the program starts."""
+    slower = f"inject=fdatasync:delay_enter={milliseconds * 1000}"
+    return ["strace", "-D", "-f", "-b", "execve", "-qq", "-o", "/dev/null", "-e", "trace=fdatasync,execve", "-e", slower, program]
+
+
 class Run:
     """An agent, the events that were fired at it, and what became of them."""
 
@@ -62,6 +79,8 @@ class Run:
         self.agent.words = ["-snapshot", self.agent.snapshot, "-keep-events", "-event-handler", f"{filters}={HANDLER.format(self.handled)}"]
         self.agent.words += ["-track-handlers=false"] if options.without else []
         self.fired, self.confirmed = 0, []
+        # in how many kills the shell of a handler waited for a flush
+        self.held = 0
 
     def fire(self, number):
         """Fires an event, and returns its number if it was confirmed."""
@@ -80,12 +99,12 @@ class Run:
             enough = self.random.randrange(1, events)
             until(lambda: sum(firing.done() for firing in firings) >= enough, 60)
             time.sleep(self.random.random() * 0.1)
-            if kills_handler:
-                # (so the agent starts no other handler meanwhile)
-                self.agent.process.send_signal(signal.SIGSTOP)
-            handlers = children(self.agent.process.pid) if kills_handler else []
+            # (so the agent starts no other handler meanwhile)
+            self.agent.process.send_signal(signal.SIGSTOP)
+            handlers = children(self.agent.process.pid)
+            self.held += any(map(is_held, handlers))
             self.agent.process.kill()
-            for pid in handlers:
+            for pid in handlers if kills_handler else []:
                 try:
                     os.killpg(pid, signal.SIGKILL)
                 except OSError:
@@ -126,7 +145,8 @@ def judge(run, is_done, is_rerun):
     began, ended, reported = run.handler_lines("begin"), set(run.handler_lines("end")), run.reported()
     print(
         f"{run.fired} events were fired, and {len(run.confirmed)} confirmed. {len(set(began))} began, {len(ended)} ended. "
-        f"{len(set(reported))} were reported as cut off, of which {len(set(reported) & ended)} ended nevertheless."
+        f"{len(set(reported))} were reported as cut off, of which {len(set(reported) & ended)} ended nevertheless. "
+        f"In {run.held} kills, the shell of a handler was waiting."
     )
     return {
         "events are still open": [] if is_done else [run.open_events()],
@@ -146,15 +166,17 @@ def main():
     parser.add_argument("--events", type=int, default=40)
     parser.add_argument("--rerun", action="store_true")
     parser.add_argument("--without", action="store_true")
+    parser.add_argument("--slow-flush", type=int)
     parser.add_argument("--agent")
     parser.add_argument("--library")
     parser.add_argument("--keep", action="store_true")
     options = parser.parse_args()
-    missing = kit.missing_command(("serf",) if options.agent else ("go", "serf"))
+    missing = kit.missing_command(["serf", *["go"] * (not options.agent), *["strace"] * bool(options.slow_flush)])
     if missing:
         sys.exit(f"not installed: {missing}")
     folder = tempfile.mkdtemp(prefix="once.")
-    run = Run(folder, options.agent or kit.build(folder, options.library, ()), options)
+    program = options.agent or kit.build(folder, options.library, ())
+    run = Run(folder, with_slow_flushes(program, options.slow_flush) if options.slow_flush else program, options)
     try:
         for number in range(options.kills):
             run.life(options.events, number % 2 == 1)
