@@ -228,7 +228,7 @@ func TestOldHeldIntentsAreForgotten(t *testing.T) {
 	held := c.intents["old"]
 	held.heldAt = time.Now().Add(-2 * c.intentTimeout)
 	c.intents["old"] = held
-	c.reap(time.Hour, time.Hour, time.Hour, false)
+	c.reap(time.Hour, time.Hour, false)
 	if _, hasYoung := c.intents["young"]; len(c.intents) != 1 || !hasYoung {
 		t.Error(c.intents)
 	}

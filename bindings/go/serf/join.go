@@ -291,9 +291,9 @@ func (s *Serf) waitFor(done <-chan struct{}, maxWait time.Duration) bool {
 // RemoveFailedNode makes all nodes treat a failed member as one that left.
 func (s *Serf) RemoveFailedNode(node string) error { return s.forceLeave(node, false) }
 
-// RemoveFailedNodePrune makes all nodes treat a member as one that left, and forget it. They forget a failed member at
-// once. If the member still seems to be alive, they forget it after BroadcastTimeout and LeavePropagateDelay, unless it
-// refutes the leave.
+// RemoveFailedNodePrune makes all nodes treat a member as one that left, and forget it. They forget a member that failed
+// or left at once. A member that memberlist still holds as alive is leaving until it refutes the leave; they forget it
+// as soon as memberlist has lost it.
 func (s *Serf) RemoveFailedNodePrune(node string) error { return s.forceLeave(node, true) }
 
 // forceLeave sends a leave intent for another member.
@@ -359,8 +359,7 @@ func (s *Serf) reap() {
 		case <-s.ctx.Done():
 			return
 		case <-ticker.C:
-			refuteTime := s.config.BroadcastTimeout + s.config.LeavePropagateDelay
-			s.members.reap(s.config.ReconnectTimeout, s.config.TombstoneTimeout, refuteTime, s.State() == SerfLeft)
+			s.members.reap(s.config.ReconnectTimeout, s.config.TombstoneTimeout, s.State() == SerfLeft)
 			s.coordinates.retain(s.members.sorted())
 		}
 	}

@@ -48,13 +48,9 @@ type member struct {
 	intentTime, leaveTime uint64
 	// changedAt is when the member failed or left, or when its last leave intent arrived.
 	changedAt time.Time
-	// prunedAt is when an intent arrived that says to forget the member after it has left. It is zero if no such intent
-	// arrived.
-	prunedAt time.Time
+	// isPruned is true if the member is leaving, and an intent said to forget it after it has left.
+	isPruned bool
 }
-
-// isPruned reports whether an intent said to forget the member after it has left.
-func (m *member) isPruned() bool { return !m.prunedAt.IsZero() }
 
 type pendingIntent struct {
 	serfagent.Intent
@@ -127,7 +123,7 @@ func (l *memberList) memberJoined(joined Member) {
 		if m.Status == StatusFailed && time.Since(m.changedAt) < l.flapTimeout {
 			incrCounter("member", "flap")
 		}
-		m.Member, m.changedAt, m.prunedAt = joined, time.Time{}, time.Time{}
+		m.Member, m.changedAt, m.isPruned = joined, time.Time{}, false
 		m.Status = StatusAlive
 		if pending, hasIntent := l.intents[joined.Name]; hasIntent {
 			delete(l.intents, joined.Name)
@@ -135,9 +131,7 @@ func (l *memberList) memberJoined(joined Member) {
 				m.intentTime = pending.Time
 				if pending.Leave {
 					m.Status, m.changedAt, m.leaveTime = StatusLeaving, time.Now(), pending.Time
-				}
-				if pending.Leave && pending.Prune {
-					m.prunedAt = time.Now()
+					m.isPruned = pending.Prune
 				}
 			}
 		}
@@ -170,14 +164,18 @@ func (l *memberList) markLeft(m *member) {
 	m.Status = StatusLeft
 	l.log.Printf("[INFO] serf: EventMemberLeave: %s %s", m.Name, m.Addr)
 	l.recordChange(EventMemberLeave, m, notAliveLine(m))
-	if m.isPruned() {
+	if m.isPruned {
 		l.forget(m, "forced")
 	}
 }
 
-// forget removes a member. The caller holds mu.
+// forget removes a member that failed or left. While memberlist holds a member as alive, the member must stay in the
+// list, because memberlist reports the member again only after it has lost it. The caller holds mu.
 func (l *memberList) forget(m *member, reason string) {
 	delete(l.members, m.Name)
+	if m.Name == l.self {
+		l.forgottenSelf = m.Member
+	}
 	l.log.Printf("[INFO] serf: EventMemberReap (%s): %s %s", reason, m.Name, m.Addr)
 	l.recordChange(EventMemberReap, m, "")
 }
@@ -260,14 +258,12 @@ func (l *memberList) applyIntent(intent serfagent.Intent) intentOutcome {
 	m.intentTime = intent.Time
 	if !intent.Leave {
 		if m.Status == StatusLeaving {
-			m.Status, m.prunedAt = StatusAlive, time.Time{}
+			m.Status, m.isPruned = StatusAlive, false
 		}
 		return intentOutcome{isNew: true}
 	}
 	m.leaveTime = intent.Time
-	if intent.Prune && !m.isPruned() {
-		m.prunedAt = time.Now()
-	}
+	m.isPruned = m.isPruned || intent.Prune
 	switch m.Status {
 	case StatusAlive, StatusLeaving:
 		m.Status, m.changedAt = StatusLeaving, time.Now()
@@ -361,10 +357,9 @@ func (l *memberList) setOwnStatus(status MemberStatus, time uint64) {
 }
 
 // reap forgets members that failed more than failedFor ago, members that left more than leftFor ago, and held intents
-// whose node never joined. It also forgets a leaving member if an intent said so more than prunedFor ago; a node that
-// is alive refutes such an intent within that time. It forgets this node itself only after this node left. If a member
-// is still alive long after its last leave intent, reap marks it as alive again.
-func (l *memberList) reap(failedFor, leftFor, prunedFor time.Duration, hasLeft bool) {
+// whose node never joined. It forgets this node itself only after this node left. If a member is still alive long after
+// its last leave intent, reap marks it as alive again.
+func (l *memberList) reap(failedFor, leftFor time.Duration, hasLeft bool) {
 	l.change(func() {
 		now := time.Now()
 		for _, m := range l.members {
@@ -372,18 +367,11 @@ func (l *memberList) reap(failedFor, leftFor, prunedFor time.Duration, hasLeft b
 				continue
 			}
 			if m.Status == StatusFailed && now.Sub(m.changedAt) > failedFor || m.Status == StatusLeft && now.Sub(m.changedAt) > leftFor {
-				if m.Name == l.self {
-					l.forgottenSelf = m.Member
-				}
 				l.forget(m, "timeout")
-			}
-			if m.Status == StatusLeaving && m.isPruned() && now.Sub(m.prunedAt) > prunedFor {
-				m.changedAt = now
-				l.markLeft(m)
 			}
 			if m.Status == StatusLeaving && m.Name != l.self && now.Sub(m.changedAt) > l.intentTimeout {
 				l.log.Printf("[INFO] serf: %s was to leave and is still alive", m.Name)
-				m.Status, m.changedAt = StatusAlive, time.Time{}
+				m.Status, m.changedAt, m.isPruned = StatusAlive, time.Time{}, false
 			}
 		}
 		for name, pending := range l.intents {

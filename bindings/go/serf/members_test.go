@@ -4,6 +4,7 @@ import (
 	"fmt"
 	"io"
 	"log"
+	"math/rand"
 	"net"
 	"reflect"
 	"strings"
@@ -34,14 +35,36 @@ func aliveMember(name string) Member {
 	return Member{Name: name, Addr: net.IPv4(127, 0, 0, 1), Port: 7946}
 }
 
+// statusOf returns the status of a member, or "" if the list doesn't have it.
+func (c *testMembers) statusOf(name string) string {
+	if m, ok := c.get(name); ok {
+		return m.Status.String()
+	}
+	return ""
+}
+
+// pass lets a time pass, and then reaps with Serf's timeouts.
+func (c *testMembers) pass(time time.Duration) {
+	for _, m := range c.members {
+		m.changedAt = m.changedAt.Add(-time)
+	}
+	for name, held := range c.intents {
+		held.heldAt = held.heldAt.Add(-time)
+		c.intents[name] = held
+	}
+	defaults := DefaultConfig()
+	c.reap(defaults.ReconnectTimeout, defaults.TombstoneTimeout, false)
+}
+
 // run applies steps such as "join a; leaves a 3; gone a", and returns the outcomes of the intents. The steps join,
-// update and gone are reports of memberlist; the steps came, leaves and pruned are intents with a time.
+// update and gone are reports of memberlist; the steps came, leaves and pruned are intents with a time. The steps
+// minute, hour and week let so much time pass.
 func (c *testMembers) run(words string) string {
 	var outcomes []string
 	for _, step := range strings.Split(words, "; ") {
 		var what, name string
-		var time uint64
-		fmt.Sscan(step, &what, &name, &time)
+		var at uint64
+		fmt.Sscan(step, &what, &name, &at)
 		switch what {
 		case "join":
 			c.memberJoined(aliveMember(name))
@@ -49,8 +72,14 @@ func (c *testMembers) run(words string) string {
 			c.memberLeft(name)
 		case "update":
 			c.memberUpdated(aliveMember(name))
+		case "minute":
+			c.pass(time.Minute)
+		case "hour":
+			c.pass(time.Hour)
+		case "week":
+			c.pass(7 * 24 * time.Hour)
 		case "came", "leaves", "pruned":
-			outcome := c.receiveIntent(serfagent.Intent{Time: time, Node: name, Leave: what != "came", Prune: what == "pruned"})
+			outcome := c.receiveIntent(serfagent.Intent{Time: at, Node: name, Leave: what != "came", Prune: what == "pruned"})
 			if outcome.isNew {
 				outcomes = append(outcomes, "new")
 			}
@@ -84,7 +113,12 @@ func TestMemberHistories(t *testing.T) {
 		{"join a; leaves a 3; gone a; pruned a 4", "new new", "", "member-join a, member-leave a, member-reap a"},
 		{"join a; gone a; pruned a 4", "new", "", "member-join a, member-failed a, member-leave a, member-reap a"},
 		{"join a; pruned a 4; gone a", "new", "", "member-join a, member-leave a, member-reap a"},
+		{"join a; pruned a 4; gone a; join a", "new", "alive", "member-join a, member-leave a, member-reap a, member-join a"},
+		{"join a; pruned a 4; leaves a 5; gone a", "new new", "", "member-join a, member-leave a, member-reap a"},
 		{"join a; pruned a 4; came a 5; leaves a 6; gone a", "new new new", "left", "member-join a, member-leave a"},
+		{"join a; pruned a 4; join a; leaves a 6; gone a", "new new", "left", "member-join a, member-join a, member-leave a"},
+		{"join a; gone a; pruned a 4; pruned a 4; join a; came a 5", "new new new", "alive", "member-join a, member-failed a, member-leave a, member-reap a, member-join a"},
+		{"pruned a 4; join a; gone a", "new", "", "member-join a, member-leave a, member-reap a"},
 		{"update a", "", "", ""},
 		{"join a; update a", "", "alive", "member-join a, member-update a"},
 		{"leaves self 3", "wrong", "", ""},
@@ -94,10 +128,7 @@ func TestMemberHistories(t *testing.T) {
 	} {
 		c := newTestMembers()
 		outcomes := c.run(test.words)
-		status := ""
-		if m, ok := c.get("a"); ok {
-			status = m.Status.String()
-		}
+		status := c.statusOf("a")
 		if events := strings.Join(c.events, ", "); outcomes != test.outcomes || status != test.status || events != test.events {
 			t.Errorf("%s: %q %q %q", test.words, outcomes, status, events)
 		}
@@ -207,7 +238,7 @@ func TestMemberThatDoesNotLeave(t *testing.T) {
 		c.setOwnStatus(StatusLeaving, 1)
 		c.run(test.words)
 		c.members["a"].changedAt = time.Now().Add(-test.age)
-		c.reap(24*time.Hour, 24*time.Hour, time.Hour, false)
+		c.reap(24*time.Hour, 24*time.Hour, false)
 		if a, _ := c.get("a"); a.Status != test.status {
 			t.Error(test, a.Status)
 		}
@@ -224,7 +255,7 @@ func TestLaterLeaveOfLeavingMember(t *testing.T) {
 	c.run("join a; leaves a 3")
 	c.members["a"].changedAt = time.Now().Add(-time.Hour)
 	c.run("leaves a 4")
-	c.reap(24*time.Hour, 24*time.Hour, time.Hour, false)
+	c.reap(24*time.Hour, 24*time.Hour, false)
 	if a, _ := c.get("a"); a.Status != StatusLeaving {
 		t.Error(a.Status)
 	}
@@ -233,15 +264,15 @@ func TestLaterLeaveOfLeavingMember(t *testing.T) {
 func TestReap(t *testing.T) {
 	c := newTestMembers()
 	c.run("join a; gone a; join b; leaves b 3; gone b; join c")
-	c.reap(time.Hour, time.Hour, time.Hour, false)
+	c.reap(time.Hour, time.Hour, false)
 	if c.size() != 4 {
 		t.Error(c.size())
 	}
-	c.reap(-1, time.Hour, time.Hour, false)
+	c.reap(-1, time.Hour, false)
 	if _, ok := c.get("a"); ok || c.size() != 3 {
 		t.Error("a was not forgotten")
 	}
-	c.reap(time.Hour, -1, time.Hour, false)
+	c.reap(time.Hour, -1, false)
 	if _, ok := c.get("b"); ok || c.size() != 2 || c.count(StatusAlive) != 2 {
 		t.Error("b was not forgotten")
 	}
@@ -308,48 +339,84 @@ func TestHeldIntentsExpire(t *testing.T) {
 	}
 }
 
-// If a member was to be pruned but joined again before it left, it is an ordinary member again.
-func TestPrunedMemberThatRejoins(t *testing.T) {
-	c := newTestMembers()
-	c.run("join a; pruned a 4; join a; leaves a 6; gone a")
-	if a, ok := c.get("a"); !ok || a.Status != StatusLeft {
-		t.Error(a.Status, ok, c.events)
-	}
-}
-
-// A member that is to be pruned but still looks alive is forgotten after a time, unless it refutes the leave. After a
-// restart, the node doesn't join the forgotten member.
-func TestPrunedMemberThatLooksAlive(t *testing.T) {
-	for _, test := range []struct {
-		words     string
-		prunedFor time.Duration
-		status    string
-	}{
-		{"join a; pruned a 4", time.Hour, "leaving"},
-		{"join a; pruned a 4", -1, ""},
-		{"join a; leaves a 4; pruned a 5", -1, ""},
-		{"pruned a 4; join a", -1, ""},
-		{"join a; pruned a 4; came a 5", -1, "alive"},
-		{"join a; pruned a 4; came a 5; leaves a 6", -1, "leaving"},
-		{"join a; leaves a 4", -1, "leaving"},
-		{"join a; pruned a 4; join a", -1, "alive"},
+// A member that is to be pruned is leaving as long as memberlist holds it as alive, and is forgotten when memberlist has
+// lost it. If it refutes the leave, or doesn't leave for long, it is an ordinary member again. After a restart, the node
+// joins the member unless it has forgotten it.
+func TestPrunedMemberThatIsAlive(t *testing.T) {
+	for _, test := range []struct{ words, status, later, laterStatus string }{
+		{"join a; pruned a 4", "leaving", "gone a", ""},
+		{"join a; pruned a 4; minute", "leaving", "gone a", ""},
+		{"join a; leaves a 4; pruned a 5; minute", "leaving", "gone a", ""},
+		{"pruned a 4; join a; minute", "leaving", "gone a", ""},
+		{"join a; pruned a 4; minute", "leaving", "came a 5", "alive"},
+		{"join a; pruned a 4; hour", "alive", "gone a", "failed"},
+		{"join a; pruned a 4; hour", "alive", "leaves a 5; gone a", "left"},
+		{"join a; pruned a 4; came a 5; hour", "alive", "gone a", "failed"},
+		{"join a; pruned a 4; came a 5; leaves a 6; minute", "leaving", "gone a", "left"},
+		{"join a; leaves a 4; minute", "leaving", "gone a", "left"},
 	} {
 		c := newTestMembers()
 		c.run(test.words)
-		c.reap(time.Hour, time.Hour, test.prunedFor, false)
-		status := ""
-		if a, ok := c.get("a"); ok {
-			status = a.Status.String()
+		status := c.statusOf("a")
+		isAliveAfterRestart := strings.Contains(strings.Join(c.aliveLines(), ""), "alive: a ")
+		c.run(test.later)
+		if laterStatus := c.statusOf("a"); status != test.status || laterStatus != test.laterStatus || !isAliveAfterRestart {
+			t.Errorf("%s; %s: %q %q %v", test.words, test.later, status, laterStatus, isAliveAfterRestart)
 		}
-		if status != test.status {
-			t.Errorf("%s: %q", test.words, status)
-		}
-		isForgotten := test.status == ""
+		isForgotten := test.laterStatus == ""
 		if ends := strings.HasSuffix(strings.Join(c.events, ", "), "member-leave a, member-reap a"); ends != isForgotten {
-			t.Errorf("%s: %v", test.words, c.events)
+			t.Errorf("%s; %s: %v", test.words, test.later, c.events)
 		}
-		if last := c.lines[len(c.lines)-1]; (last == "not-alive: a\n") != isForgotten {
-			t.Errorf("%s: %q", test.words, last)
+		if last := c.lines[len(c.lines)-1]; isForgotten && last != "not-alive: a\n" {
+			t.Errorf("%s; %s: %q", test.words, test.later, last)
+		}
+	}
+}
+
+// Whatever arrives in whatever order, and whatever is reaped: the list has each member that memberlist holds as alive, as alive or as
+// leaving. It has the others as failed or left, or has forgotten them. A later join intent makes every living member alive.
+func TestLivingMembersAreNeverForgotten(t *testing.T) {
+	rng := rand.New(rand.NewSource(1))
+	names := []string{"a", "b", "c"}
+	for history := 0; history < 500; history++ {
+		c, isAlive := newTestMembers(), map[string]bool{}
+		var steps []string
+		step := func(words string) {
+			steps = append(steps, words)
+			c.run(words)
+		}
+		for len(steps) < 40 {
+			name := names[rng.Intn(len(names))]
+			switch rng.Intn(7) {
+			case 0:
+				// (memberlist reports each change once)
+				step(map[bool]string{false: "join ", true: "gone "}[isAlive[name]] + name)
+				isAlive[name] = !isAlive[name]
+			case 1, 2, 3:
+				step(fmt.Sprint([]string{"came ", "leaves ", "pruned "}[rng.Intn(3)], name, " ", rng.Intn(20)))
+			case 4:
+				step([]string{"minute", "hour", "week"}[rng.Intn(3)])
+			case 5:
+				state := &serfagent.Members{Statuses: []serfagent.Status{{Name: name, Time: uint64(rng.Intn(20))}}}
+				if rng.Intn(2) == 0 {
+					state.Left = []string{name}
+				}
+				steps = append(steps, fmt.Sprintf("merge %v", *state))
+				c.mergeState(state)
+			default:
+				steps = append(steps, "make room")
+				c.makeRoom()
+			}
+			for _, name := range names {
+				if status := c.statusOf(name); isAlive[name] != (status == "alive" || status == "leaving") {
+					t.Fatalf("%s is %q after %s", name, status, strings.Join(steps, "; "))
+				}
+			}
+		}
+		for _, name := range names {
+			if step("came " + name + " 20"); isAlive[name] && c.statusOf(name) != "alive" {
+				t.Fatalf("%s is %q after %s", name, c.statusOf(name), strings.Join(steps, "; "))
+			}
 		}
 	}
 }
@@ -357,14 +424,26 @@ func TestPrunedMemberThatLooksAlive(t *testing.T) {
 func TestNodeForgetsItselfOnlyAfterLeave(t *testing.T) {
 	c := newTestMembers()
 	c.setOwnStatus(StatusLeft, 5)
-	c.reap(-1, -1, -1, false)
+	c.reap(-1, -1, false)
 	if self, ok := c.get("self"); !ok || self.Status != StatusLeft {
 		t.Error(self, ok)
 	}
 	// after a leave, reap forgets this node too, as Serf does, and ownMember still returns it
-	c.reap(-1, -1, -1, true)
+	c.reap(-1, -1, true)
 	if _, ok := c.get("self"); ok || c.ownMember().Name != "self" {
 		t.Error(c.ownMember())
+	}
+}
+
+// If another node prunes this node while it leaves, this node forgets itself too, and ownMember still returns it.
+func TestPrunedNodeThatLeaves(t *testing.T) {
+	for _, words := range []string{"pruned self 6; gone self", "gone self; pruned self 6"} {
+		c := newTestMembers()
+		c.setOwnStatus(StatusLeaving, 5)
+		c.run(words)
+		if own := c.ownMember(); c.statusOf("self") != "" || own.Name != "self" || own.Status != StatusLeft {
+			t.Error(words, c.statusOf("self"), own)
+		}
 	}
 }
 
