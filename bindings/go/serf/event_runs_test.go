@@ -377,7 +377,9 @@ func TestSkippedEventsShareALine(t *testing.T) {
 			events = append(events, a.fireNew("n", nil))
 		}
 		// (the line of the node itself is appended in another goroutine, without agentMu)
-		eventually(t, "the node's own line is in the file", func() bool { return strings.Contains(readText(t, a.snapshot.path), "alive: a ") })
+		eventually(t, "the node's own line is in the file", func() bool {
+			return strings.Contains(readText(t, a.snapshot.path), "alive: a ")
+		})
 		must(t, a.Begin(events[4]))
 		if open != 5 {
 			must(t, a.Done(events[4]))

@@ -288,7 +288,9 @@ type queryingAgent struct {
 	params serfagent.QueryParams
 }
 
-func (q *queryingAgent) Query(now uint64, id uint32, name string, payload []byte, params serfagent.QueryParams) (*serfagent.FiredQuery, error) {
+func (q *queryingAgent) Query(
+	now uint64, id uint32, name string, payload []byte, params serfagent.QueryParams,
+) (*serfagent.FiredQuery, error) {
 	q.params = params
 	return q.fakeAgent.Query(now, id, name, payload, params)
 }

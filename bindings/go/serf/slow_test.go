@@ -219,7 +219,9 @@ func (n *recordingAgent) Merge(state []byte, isJoin bool) ([]*serfagent.Event, e
 	return events, err
 }
 
-func (n *recordingAgent) Query(now uint64, id uint32, name string, payload []byte, params serfagent.QueryParams) (*serfagent.FiredQuery, error) {
+func (n *recordingAgent) Query(
+	now uint64, id uint32, name string, payload []byte, params serfagent.QueryParams,
+) (*serfagent.FiredQuery, error) {
 	n.recorded.mu.Lock()
 	defer n.recorded.mu.Unlock()
 	fired, err := n.Agent.Query(now, id, name, payload, params)

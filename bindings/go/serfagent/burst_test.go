@@ -129,7 +129,8 @@ func TestNamesOfAnyBytes(t *testing.T) {
 		if err != nil || outcomes[0].Fired.Event.Name != name || outcomes[1].FiredQuery.Query.Name != name {
 			t.Errorf("%q: %v %v", name, outcomes, err)
 		}
-		if query, err := agent.Query(1, 8, name, nil, QueryParams{}); err != nil || query.Query.Name != name || query.Query.Source != "one" {
+		query, err := agent.Query(1, 8, name, nil, QueryParams{})
+		if err != nil || query.Query.Name != name || query.Query.Source != "one" {
 			t.Errorf("%q: %v %v", name, query, err)
 		}
 		intentPacket, err := Intent{Time: 3, Node: name}.Packet()

@@ -77,7 +77,8 @@ func (a *Agent) pendingQuery(number C.uint64_t) (*PendingQuery, error) {
 	}
 	return &PendingQuery{
 		Number: uint64(number), Time: uint64(info.time), ID: uint32(info.id), Name: stringOf(name), Payload: payload,
-		Source: stringOf(source), Addr: addr, Port: uint16(info.port), RelayFactor: uint8(info.relay_factor), Deadline: uint64(info.deadline),
+		Source: stringOf(source), Addr: addr, Port: uint16(info.port), RelayFactor: uint8(info.relay_factor),
+		Deadline: uint64(info.deadline),
 	}, nil
 }
 
