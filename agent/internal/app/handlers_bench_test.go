@@ -71,7 +71,10 @@ func BenchmarkHandledFile(b *testing.B) {
 					measure()
 				}
 			}
-			testkit.Eventually(b, "all events are handled", func() bool { measure(); return a.Stats()["agent"]["handlers_ok"] == strconv.Itoa(b.N) })
+			testkit.Eventually(b, "all events are handled", func() bool {
+				measure()
+				return a.Stats()["agent"]["handlers_ok"] == strconv.Itoa(b.N)
+			})
 			sort.Ints(sizes)
 			b.ReportMetric(float64(sizes[len(sizes)/2])/1024, "median-KiB")
 			b.ReportMetric(float64(sizes[len(sizes)-1])/1024, "max-KiB")

@@ -82,7 +82,10 @@ func TestNothingRunsThatIsNotRecorded(t *testing.T) {
 		says           string
 		neverRun       int64
 	}{
-		{errors.New("the disk is full"), nil, "[ERR] agent: no handler was run for user-event: deploy (time 0, payload \"a\"): the disk is full\n", 0},
+		{
+			errors.New("the disk is full"), nil,
+			"[ERR] agent: no handler was run for user-event: deploy (time 0, payload \"a\"): the disk is full\n", 0,
+		},
 		{nil, errors.New("the disk is full"), "of user-event: deploy (time 0, payload \"a\") was not run: the disk is full\n", 2},
 		{nil, serf.ErrEnded, "was not run: " + serf.ErrEnded.Error(), 2},
 	} {
@@ -188,11 +191,15 @@ func TestKilledAgent(t *testing.T) {
 
 // ownScripts show what a script sees of its shell and of its input, and how it ends.
 var ownScripts = []string{
-	"", "true", "exit 3", "kill -9 $$", "# a comment", "#!/bin/sh\necho a", "\n\necho $LINENO", "echo $LINENO\nno-such-command\nexit 7", "no-such-command",
+	"", "true", "exit 3", "kill -9 $$", "# a comment", "#!/bin/sh\necho a", "\n\necho $LINENO",
+	"echo $LINENO\nno-such-command\nexit 7", "no-such-command",
 	`echo "$0|$#|$*|$?|$-|$(umask)|$PWD"`, "env | sort", "exec ls /proc/self/fd", "exec 3>&1; echo three >&3; exec 3>&-; ls /proc/self/fd",
-	"cat", "read line; echo \"[$line]\"; cat", "head -c 3; echo; cat", "exec cat", "cat <<E\nhere\nE\ncat", "f() { cat; }; f", "{ cat; }", "! true", "set -eu; cat; false; echo not reached",
-	"set -u; echo $SERF_BEGUN", "trap 'echo bye' EXIT; cat", "sleep 0.01 & wait; cat", "case a in a) cat;; esac", "echo out; echo err >&2; exit 1",
-	"read -r pid _ _ _ group _ <\"/proc/$$/stat\"; [ $pid = $group ] && echo leads its group", "cat /proc/$$/comm; exec cat /proc/self/comm", "echo a\n)",
+	"cat", "read line; echo \"[$line]\"; cat", "head -c 3; echo; cat", "exec cat", "cat <<E\nhere\nE\ncat", "f() { cat; }; f",
+	"{ cat; }", "! true", "set -eu; cat; false; echo not reached",
+	"set -u; echo $SERF_BEGUN", "trap 'echo bye' EXIT; cat", "sleep 0.01 & wait; cat", "case a in a) cat;; esac",
+	"echo out; echo err >&2; exit 1",
+	"read -r pid _ _ _ group _ <\"/proc/$$/stat\"; [ $pid = $group ] && echo leads its group",
+	"cat /proc/$$/comm; exec cat /proc/self/comm", "echo a\n)",
 }
 
 // A script that was held sees and does the same as one that wasn't: it has the same environment, arguments, descriptors,
@@ -200,7 +207,9 @@ var ownScripts = []string{
 func TestHeldScriptsAreTheSame(t *testing.T) {
 	t.Parallel()
 	for _, command := range append(ownScripts, "ls /proc/$$/fd; :", "do", "; cat", "echo a; )") {
-		for _, input := range []string{"", "a\\b  \n second\n\nno newline", "\n" + strings.Repeat("x", pipeCapacity-1), strings.Repeat("z\n", 100000)} {
+		for _, input := range []string{
+			"", "a\\b  \n second\n\nno newline", "\n" + strings.Repeat("x", pipeCapacity-1), strings.Repeat("z\n", 100000),
+		} {
 			var found [2]string
 			for i := range found {
 				s := startShell(command, []string{"SERF_EVENT=user"}, []byte(input), i == 1)
@@ -229,7 +238,10 @@ func TestHeldScriptsInOtherShells(t *testing.T) {
 			for _, input := range []string{"", "a\\b  \n second\n\nno newline"} {
 				var found [2]string
 				for i, prefixes := range [][2]string{{"", ""}, {heldPrefix, "\n"}} {
-					shell := exec.Cmd{Path: path, Args: []string{"/bin/sh", "-c", prefixes[0] + command}, SysProcAttr: &syscall.SysProcAttr{Setpgid: true}}
+					shell := exec.Cmd{
+						Path: path, Args: []string{"/bin/sh", "-c", prefixes[0] + command},
+						SysProcAttr: &syscall.SysProcAttr{Setpgid: true},
+					}
 					shell.Stdin = strings.NewReader(prefixes[1] + input)
 					output, err := shell.CombinedOutput()
 					found[i] = fmt.Sprintf("%v %q", err, output)

@@ -250,7 +250,8 @@ func (r *Runner) finish(ctx context.Context, run scriptRun, s *shell) scriptResu
 	}
 	result := s.finish(ctx)
 	metrics.MeasureSince([]string{"agent", "invoke", script.Command}, s.began)
-	metrics.MeasureSinceWithLabels([]string{"agent", "handler", "duration"}, s.began, []metrics.Label{{Name: "handler", Value: script.Name}})
+	labels := []metrics.Label{{Name: "handler", Value: script.Name}}
+	metrics.MeasureSinceWithLabels([]string{"agent", "handler", "duration"}, s.began, labels)
 	r.counts.countResult(script, result.kind())
 	took := time.Since(s.began).Round(time.Millisecond)
 	if took > slowHandler && result.err == nil {

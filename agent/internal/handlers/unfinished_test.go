@@ -269,7 +269,8 @@ func TestFiltersOfHandlers(t *testing.T) {
 func TestRunAll(t *testing.T) {
 	r, _ := newRunner(t, 0, "true", "true")
 	ended, cancel := context.WithCancel(context.Background())
-	if runs, isWhole := r.runAll(ended, r.runsFor(userEventOf("deploy", "")), nil); !isWhole || fmt.Sprint(runs) != "[{true 0} {true-2 0}]" {
+	runs, isWhole := r.runAll(ended, r.runsFor(userEventOf("deploy", "")), nil)
+	if !isWhole || fmt.Sprint(runs) != "[{true 0} {true-2 0}]" {
 		t.Error("two scripts that ended are not whole", runs)
 	}
 	cancel()

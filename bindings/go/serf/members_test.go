@@ -117,7 +117,10 @@ func TestMemberHistories(t *testing.T) {
 		{"join a; pruned a 4; leaves a 5; gone a", "new new", "", "member-join a, member-leave a, member-reap a"},
 		{"join a; pruned a 4; came a 5; leaves a 6; gone a", "new new new", "left", "member-join a, member-leave a"},
 		{"join a; pruned a 4; join a; leaves a 6; gone a", "new new", "left", "member-join a, member-join a, member-leave a"},
-		{"join a; gone a; pruned a 4; pruned a 4; join a; came a 5", "new new new", "alive", "member-join a, member-failed a, member-leave a, member-reap a, member-join a"},
+		{
+			"join a; gone a; pruned a 4; pruned a 4; join a; came a 5", "new new new", "alive",
+			"member-join a, member-failed a, member-leave a, member-reap a, member-join a",
+		},
 		{"pruned a 4; join a; gone a", "new", "", "member-join a, member-leave a, member-reap a"},
 		{"update a", "", "", ""},
 		{"join a; update a", "", "alive", "member-join a, member-update a"},
