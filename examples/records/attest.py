@@ -30,7 +30,6 @@ from collections import Counter
 
 sys.dont_write_bytecode = True
 sys.path.insert(0, os.path.dirname(os.path.abspath(__file__)))
-import packets
 from lives import Program, ProgramError, Refused, lives_of
 from record import RecordError
 from snapshot_texts import begins_with, events_in
@@ -53,7 +52,7 @@ class Node:
                 try:
                     self.add_call(call)
                 except ValueError as error:
-                    raise Refused(f"{call.path}:{call.line}: the reply carries a packet that isn't in hex") from error
+                    raise Refused(f"{call.path}:{call.line}: the reply contains an event that isn't in hex") from error
 
     def add_call(self, call):
         """Adds a call. It refuses an event that was handed out before."""
@@ -65,9 +64,9 @@ class Node:
                     f"{call.path}:{call.line}: {describe_event(event)} is handed out again; line {before.line} of {before.path} has it"
                 )
         # (a packet that is sent on is somebody else's)
-        self.made.update(packet_key(packet) for packet in call.sent() if packet not in call.words)
+        self.made.update(packet for packet in call.sent() if packet not in call.words)
         if call.kind in ("deliver", "merge") and not call.is_of_members():
-            self.received.append((packet_key(call.words[1]), call))
+            self.received.append(call)
 
     def check(self, program):
         """Checks each life, and that each opens on what the life before flushed."""
@@ -85,11 +84,6 @@ class Node:
             raise Refused(f"the snapshot of {self.name} lost what was flushed before {what}: of the lines that count, {faults[0]}")
 
 
-def packet_key(data):
-    """What identifies a packet among those of several records."""
-    return packets.without_tag_filters(b"" if data == "-" else bytes.fromhex(data))
-
-
 def describe_event(event):
     """An event in words."""
     time, name, payload = (event[0], *(b"" if data == "-" else bytes.fromhex(data) for data in event[1:]))
@@ -98,11 +92,11 @@ def describe_event(event):
 
 def check_packets(nodes, is_whole):
     """Counts the packets that no recorded node made, or refuses the first one."""
-    made_keys = set().union(*(node.made for node in nodes))
+    made = set().union(*(node.made for node in nodes))
     outside_packets = 0
     for node in nodes:
-        for key, call in node.received:
-            if key not in made_keys:
+        for call in node.received:
+            if call.words[1] not in made:
                 outside_packets += 1
                 if is_whole:
                     raise Refused(

@@ -52,7 +52,7 @@ class Life:
         """The life as a schedule of this agent alone, in which each packet that it received is injected; and for each action, the call."""
         lines, calls, sent = [f"agent {' '.join(self.opening.words[1:-1])}", f"restart 0 {self.opening.words[-1]}"], [self.opening], 0
         for call in self.calls:
-            words = call.words[1:]
+            words = call.without_tag_filters().words[1:]
             if call.kind in ("deliver", "merge"):
                 lines.append(f"inject {words[0]}")
                 calls.append(call)
@@ -66,7 +66,7 @@ class Life:
         """The replies of the record, as the agent on the pipe returns them."""
         yield ["opened 1 1 1"]
         for call in [self.opening, *self.calls]:
-            lines = [" ".join(words) for words in call.reply]
+            lines = [" ".join(words) for words in call.without_tag_filters().reply]
             if call.kind == "open":
                 lines[0] = lines[0].replace("opened", "restarted", 1)
             yield [without_host_part(line) for line in lines] if call.kind in ("state", "query") else lines

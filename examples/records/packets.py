@@ -2,6 +2,9 @@
 
 EVENT, STATE, QUERY = 3, 2, 4
 
+# The value nil.
+NIL = b"\xc0"
+
 # The lengths of MessagePack values of a fixed length, by their first byte, with this byte.
 FIXED = {0xC0: 1, 0xC2: 1, 0xC3: 1, 0xCA: 5, 0xCB: 9, 0xCC: 2, 0xCD: 3, 0xCE: 5, 0xCF: 9, 0xD0: 2, 0xD1: 3, 0xD2: 5, 0xD3: 9}
 FIXED.update({0xD4: 3, 0xD5: 4, 0xD6: 6, 0xD7: 10, 0xD8: 18})
@@ -45,21 +48,33 @@ def end_of(data, at):
     return at
 
 
-def fields_of(packet):
-    """The fields of a message, in order: each name, and the bytes of its value. It raises ValueError if the bytes are no such message."""
+def text_of(value):
+    """The bytes of a text, which may be spelled in any way."""
+    first_byte = value[0]
+    return value[1:] if 0xA0 <= first_byte < 0xC0 else value[1 + SIZED[first_byte][0] :]
+
+
+def places_of(packet):
+    """The fields of a message, in order: each name, and the places at which its value begins and ends. It raises ValueError if the bytes
+    are no such message."""
     try:
         at, values = items_of(packet, 1)
         found = []
         for _ in range(values // 2):
-            value = end_of(packet, at)
-            end = end_of(packet, value)
-            found.append((packet[at:value], packet[value:end]))
+            begin = end_of(packet, at)
+            end = end_of(packet, begin)
+            found.append((text_of(packet[at:begin]), begin, end))
             at = end
     except (IndexError, KeyError, TypeError) as error:
         raise ValueError("not a message") from error
     if at != len(packet):
         raise ValueError("not a message")
-    return [(name[-(name[0] & 0x1F) :] if 0xA0 < name[0] < 0xC0 else name, value) for name, value in found]
+    return found
+
+
+def fields_of(packet):
+    """The fields of a message, in order: each name, and the bytes of its value."""
+    return [(name, packet[begin:end]) for name, begin, end in places_of(packet)]
 
 
 def message(kind, fields):
@@ -83,28 +98,41 @@ def without_address(query):
     return with_values(query, {b"Addr": b"\xa0", b"Port": b"\x00", b"RelayFactor": b"\x00"})
 
 
-def without_tag_filters(packet):
-    """A query's fields without its tag filters; the bytes of any other packet. A node that passes tag filters records a query without
-    them."""
-    if packet[:1] != bytes([QUERY]):
-        return packet
+def is_tag_filter(query_filter):
+    """Whether a filter of a query is a tag filter."""
+    return query_filter[:1] == b"\x01"
+
+
+def filters_of(query):
+    """The filters of a query, in order. It raises ValueError if the bytes are no such message."""
+    value = dict(fields_of(query)).get(b"Filters", NIL)
+    if value == NIL:
+        return []
     try:
-        fields = fields_of(packet)
-    except ValueError:
-        return packet
-    return tuple((name, node_filters(value) if name == b"Filters" else value) for name, value in fields)
+        at, count = items_of(value, 0)
+        found = []
+        for _ in range(count):
+            end = end_of(value, at)
+            found.append(text_of(value[at:end]))
+            at = end
+    except (KeyError, TypeError) as error:
+        raise ValueError("not a list of filters") from error
+    return found
 
 
-def node_filters(value):
-    """The filters of an array that aren't tag filters."""
-    items = items_of(value, 0)
-    if items is None:
-        return ()
-    at, filters = items[0], []
-    for _ in range(items[1]):
-        end = end_of(value, at)
-        header = 1 + SIZED[value[at]][0] if value[at] in SIZED else 1
-        if value[at + header : at + header + 1] != b"\x01":
-            filters.append(value[at + header : end])
-        at = end
-    return tuple(filters)
+def without_tag_filters(query):
+    """A query without its tag filters. All its other bytes are the same. It raises ValueError if the bytes are no query with filters."""
+    kept = [one for one in filters_of(query) if not is_tag_filter(one)]
+    places = [(begin, end) for name, begin, end in places_of(query) if name == b"Filters"]
+    if not places:
+        raise ValueError("there are no filters")
+    begin, end = places[0]
+    header = bytes([0x90 | len(kept)]) if len(kept) < 16 else b"\xdc" + len(kept).to_bytes(2, "big")
+    return query[:begin] + header + b"".join(raw_text(one) for one in kept) + query[end:]
+
+
+def raw_text(data):
+    """The shortest spelling of a text."""
+    length = len(data)
+    header = bytes([0xA0 | length]) if length < 32 else b"\xda" + length.to_bytes(2, "big") if length < 1 << 16 else b"\xdb" + length.to_bytes(4, "big")
+    return header + data

@@ -34,7 +34,7 @@ class Node:
             for call in calls_of(name, warn):
                 # A file that continues another one begins by opening the agent again, with the clocks of that moment.
                 if not (call.goes_on and self.calls):
-                    self.calls.append(call)
+                    self.calls.append(call.without_tag_filters())
         if not self.calls or self.calls[0].kind != "open":
             raise RecordError(f"{path}: this is not the record of an agent")
         self.name = bytes.fromhex(self.calls[0].words[1])

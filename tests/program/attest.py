@@ -156,6 +156,55 @@ def packets_from_outside(count):
         )
 
 
+def filters_of_tags(count):
+    """A query with a filter of tags, at nodes whose tags pass it and at one whose tags don't."""
+    with tempfile.TemporaryDirectory() as folder:
+        day = days.Day(45, 30)
+        first, second, third = day.nodes
+        query = first.call_with_tags(f"query 31000 7 {b'load'.hex()} - 100000 1")
+        bare = query.replace(days.TAG_FILTERS, days.NO_FILTER)
+        second.call_with_tags(f"deliver {bare} 31000")
+        third.call(f"deliver {query} 31000")
+        paths = day.write(folder)
+        status, output = run_script(*paths, "--whole")
+        count.check("a filter of tags", status == 0, output)
+        count.check("two nodes were handed the query, and one wasn't", [node.record.count(f"handed {node.handed - 1} ") for node in day.nodes][:2] == [1, 1] and third.record.endswith(f"sent {query}\n\n"), third.record[-400:])
+        for what, number, old, new, says in (
+            ("its note is missing", 1, "# tags pass\n", "", "b replied to `deliver"),
+            ("another packet is sent on", 1, f"sent {query}", f"sent {bare}", "b replied to `deliver"),
+            ("there is a note, and it isn't handed out", 2, f"deliver {query}", f"# tags pass\ndeliver {query}", "c replied to `deliver"),
+            ("the packet lacks the filter of the call", 0, f"sent {query}", f"sent {bare}", "a replied to `query"),
+            ("the call lacks the filter of the packet", 0, f" {days.TAG_FILTER}\n", "\n", "a replied to `query"),
+            ("a note is before another call", 0, "\nfire ", "\n# tags pass\nfire ", "this is no call of a query with tag filters"),
+            ("a note is before a query without filters", 1, f"deliver {query}", f"deliver {bare}", "b replied to `deliver"),
+        ):
+            text = day.nodes[number].record
+            with open(paths[number], "w", encoding="ascii") as file:
+                file.write(text.replace(old, new))
+            status, output = run_script(paths[number])
+            count.check(f"a filter of tags: {what}", text.replace(old, new) != text and status == 1 and says in output, output)
+
+
+def kills_within_a_call(count):
+    """A kill that cuts off the last call of a life, at the end of a line or within one. Then the next life begins."""
+    program = Remembering()
+    with tempfile.TemporaryDirectory() as folder:
+        day = days.Day(46, 30)
+        node = day.nodes[0]
+        before = len(node.record)
+        node.call("fire 61 62 0")
+        call = node.record[before:]
+        node.kill()
+        path, text = day.write(folder)[0], node.record
+        lines = [at + 1 for at, byte in enumerate(call) if byte == "\n"]
+        for cut in sorted({*lines, *(at - 3 for at in lines if at > 4)}):
+            with open(path, "w", encoding="ascii") as file:
+                file.write(text[: before + cut] + text[before + len(call) :])
+            found = attest.Node(path)
+            found.check(program)
+            count.check(f"a call that was cut off at {cut}", len(found.lives[-2].calls) == len(attest.Node(day.write(folder)[0]).lives[-2].calls) - (cut < len(call)), call)
+
+
 def wrong_agents(count):
     for name in WRONG:
         switches.choose(name)
@@ -260,8 +309,4 @@ def changed_records(count):
 
 
 if __name__ == "__main__":
-    sys.exit(
-        checks.over_program(
-            whole_days, lost_lines, handlers, packets_from_outside, wrong_agents, no_records, compactions, pages_run, changed_records
-        )
-    )
+    sys.exit(checks.over_program(whole_days, lost_lines, handlers, packets_from_outside, filters_of_tags, kills_within_a_call, wrong_agents, no_records, compactions, pages_run, changed_records))

@@ -8,8 +8,8 @@ import (
 
 	"kitchenrue.example/agent/internal/config"
 	"kitchenrue.example/agent/internal/keyring"
-	"kitchenrue.example/agent/internal/record"
 	"kitchenrue.example/serf"
+	"kitchenrue.example/serf/record"
 )
 
 // Events that may be coalesced wait for at most coalescePeriod, or until none arrived for quietPeriod. These are the

@@ -14,7 +14,6 @@ import (
 // Messages that Serf's own agents sent, captured from the network.
 const (
 	queryPacket       = "048ba441646472a47f000101a746696c7465727393a60092a178a179b40182a445787072a3776562a3546167a4726f6c65af0182a445787072a162a3546167a161a5466c61677301a24944ce2f3cc807a54c54696d6501a44e616d65a46c6f6164a75061796c6f6164c0a4506f7274cd1f0aab52656c6179466163746f7200aa536f757263654e6f6465a5616c706861a754696d656f7574ce11e1a300"
-	plainPacket       = "048ba441646472a47f000101a746696c74657273c0a5466c61677301a24944ce130af890a54c54696d6502a44e616d65a46c6f6164a75061796c6f6164a3706179a4506f7274cd1f0aab52656c6179466163746f7203aa536f757263654e6f6465a5616c706861a754696d656f7574ce3b9aca00"
 	relayPacket       = "0982a8446573744164647283a24950a47f000101a4506f7274cd1f0aa45a6f6e65a0a8446573744e616d65a5616c7068610585a5466c61677301a446726f6da5616c706861a24944ce130af890a54c54696d6502a75061796c6f6164c0"
 	keyRequestPacket  = "0781a34b6579da0020b19e7fa4ded89f425da562d476d10541e89391c751bea65cd5ef861fb3ef0357"
 	keyResponsePacket = "0884a44b657973c0a74d657373616765da00294b657972696e6720697320656d7074792028656e6372797074696f6e206e6f7420656e61626c656429aa5072696d6172794b6579a0a6526573756c74c2"
@@ -74,16 +73,6 @@ func TestSerfsFilters(t *testing.T) {
 	found, err := serfagent.FiltersOf(packet)
 	if err != nil || !reflect.DeepEqual(found, want) {
 		t.Errorf("%q %v", found, err)
-	}
-	withoutTags, err := serfagent.FiltersOf(WithoutTagFilters(packet))
-	if err != nil || !reflect.DeepEqual(withoutTags, want[:1]) {
-		t.Errorf("%q %v", withoutTags, err)
-	}
-	for _, other := range [][]byte{nil, {4}, unhex(t, plainPacket), unhex(t, eventPacket), packet[:20]} {
-		if unchanged := WithoutTagFilters(other); !bytes.Equal(unchanged, other) &&
-			!bytes.Equal(unchanged, bytes.Replace(other, []byte("Filters\xc0"), []byte("Filters\x90"), 1)) {
-			t.Errorf("%x", unchanged)
-		}
 	}
 }
 
@@ -250,7 +239,6 @@ func TestDamagedMessages(t *testing.T) {
 				damaged := append([]byte(nil), whole...)
 				damaged[i] = value
 				for _, packet := range [][]byte{damaged, damaged[:i]} {
-					WithoutTagFilters(packet)
 					_, _ = decodeRelay(packet)
 					_, _ = decodeKeyRequest(packet)
 					_, _ = decodeKeyResponse(packet)

@@ -81,32 +81,3 @@ func decodeTagFilter(filter []byte) (tag, expression string, err error) {
 	err = decodeWhole(filter, serfagent.TagFilter, &found)
 	return found.Tag, found.Expr, err
 }
-
-// WithoutTagFilters returns a query's packet without its tag filters. A program that records the queries that this
-// node's tags pass uses it, since a reader of the record doesn't know the tags. If the packet is not a query or can't
-// be read, WithoutTagFilters returns it unchanged. Serf has no such function.
-func WithoutTagFilters(packet []byte) []byte {
-	if len(packet) == 0 || packet[0] != queryType {
-		return packet
-	}
-	kept := [][]byte{}
-	start, end, isFound := 0, 0, false
-	d := newDecoder(packet[1:])
-	d.readMap(func(key string) bool {
-		if key != "Filters" {
-			return false
-		}
-		start, isFound = 1+d.At, true
-		for count := d.readArrayHeader(); count > 0 && d.Err == nil; count-- {
-			if filter := d.readText(); !IsTagFilter(filter) {
-				kept = append(kept, filter)
-			}
-		}
-		end = 1 + d.At
-		return true
-	})
-	if d.finish() != nil || !isFound {
-		return packet
-	}
-	return append(encode(kept, append([]byte(nil), packet[:start]...)...), packet[end:]...)
-}

@@ -10,8 +10,13 @@ import sys
 sys.path.insert(0, os.path.join(os.path.dirname(os.path.abspath(__file__)), *[os.pardir] * 3, "conformance", "python"))
 from serf_agent.pipe import Pipe
 
-HEADING = "# kitchenrue-agent record 2\n"
+HEADING = "# kitchenrue-agent record 3\n"
 OTHER_LINES = (b"alive: b 10.0.0.2:7946\n", b"not-alive: c\n", b"#begun 1 61 62\n", b"##########\n", b"coordinate: {}\n")
+
+
+# A filter of tags, and the field of a query with no filter and with this one.
+TAG_FILTER = "0182a445787072a3776562a3546167a4726f6c65"
+NO_FILTER, TAG_FILTERS = "a746696c7465727390", f"a746696c7465727391b4{TAG_FILTER}"
 
 
 def spliced(chance, text):
@@ -63,6 +68,19 @@ class DayNode:
             elif word == "handed":
                 self.handed = int(words[0]) + 1
         return reply
+
+    def call_with_tags(self, line):
+        """Makes a call of a query, which the agent's tags pass, and records it with the filter of tags."""
+        start = len(self.record)
+        reply = self.call(line)
+        bare = next(one.split(" ")[1] for one in reply if one.startswith("sent 04"))
+        whole = bare.replace(NO_FILTER, TAG_FILTERS)
+        call = self.record[start:].replace(bare, whole)
+        at, _, rest = call.partition("\n")
+        if line.startswith("query "):
+            rest = rest.replace("\n", f" {TAG_FILTER}\n", 1)
+        self.record = f"{self.record[:start]}{at}\n# tags pass\n{rest}"
+        return whole
 
     def kept(self):
         """What the disk keeps."""

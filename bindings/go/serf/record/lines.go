@@ -1,7 +1,7 @@
 package record
 
 import (
-	"encoding/hex"
+	"encoding/binary"
 	"strconv"
 
 	"kitchenrue.example/serfagent"
@@ -35,15 +35,42 @@ func (l *lines) bytes(data []byte) *lines {
 	if len(data) == 0 {
 		return l.word("-")
 	}
-	l.text = append(l.text, ' ')
-	from := len(l.text)
-	l.text = append(l.text, make([]byte, hex.EncodedLen(len(data)))...)
-	hex.Encode(l.text[from:], data)
+	l.text = appendHex(append(l.text, ' '), data)
 	return l
 }
 
 // name appends a name in hex.
 func (l *lines) name(name string) *lines { return l.bytes([]byte(name)) }
+
+// hexDigits has the two digits of each byte. The first digit is the low half of the number.
+var hexDigits = makeHexDigits()
+
+func makeHexDigits() (digits [256]uint16) {
+	const all = "0123456789abcdef"
+	for i := range digits {
+		digits[i] = uint16(all[i>>4]) | uint16(all[i&15])<<8
+	}
+	return digits
+}
+
+// appendHex appends bytes in hex. Most of a record is in hex, so this function writes eight digits at a time, which takes
+// about half the time of package hex.
+func appendHex(text, data []byte) []byte {
+	from := len(text)
+	text = append(text, make([]byte, 2*len(data))...)
+	to := text[from:]
+	for len(data) >= 4 && len(to) >= 8 {
+		first := uint64(hexDigits[data[0]]) | uint64(hexDigits[data[1]])<<16
+		second := uint64(hexDigits[data[2]]) | uint64(hexDigits[data[3]])<<16
+		binary.LittleEndian.PutUint64(to, first|second<<32)
+		data, to = data[4:], to[8:]
+	}
+	for _, b := range data {
+		binary.LittleEndian.PutUint16(to, hexDigits[b])
+		to = to[2:]
+	}
+	return text
+}
 
 func (l *lines) boolean(value bool) *lines {
 	if value {
@@ -57,7 +84,8 @@ func (l *lines) endReply() { l.text = append(l.text, "\n\n"...) }
 
 // writeMoment writes when the calls after it were made, in nanoseconds since 1970.
 func (l *lines) writeMoment(nanoseconds int64) {
-	l.line("at").number(uint64(nanoseconds)).text = append(l.text, '\n')
+	l.line("at").number(uint64(nanoseconds))
+	l.text = append(l.text, '\n')
 }
 
 // writeSent writes the line of a packet that is sent, if there is one.
@@ -113,8 +141,9 @@ func (l *lines) writeOpen(name string, settings serfagent.Settings, text []byte,
 	l.line("opened").number(clocks.Member).number(clocks.Event).number(clocks.Query).endReply()
 }
 
-// writeReceived writes the reply to a packet, or why the packet was refused.
-func (l *lines) writeReceived(packet []byte, outcome serfagent.Outcome, number uint64) {
+// writeReceived writes the reply to a packet, or why the packet was refused. word is the word that the packet is in the
+// call, with the space before it.
+func (l *lines) writeReceived(packet, word []byte, outcome serfagent.Outcome, number uint64) {
 	received := outcome.Received
 	if received == nil {
 		l.writeRefusal(outcome.Err, packet)
@@ -138,24 +167,42 @@ func (l *lines) writeReceived(packet []byte, outcome serfagent.Outcome, number u
 		l.line("push-pull")
 	}
 	if received.Rebroadcast {
-		l.writeSent(packet)
+		// (the agent sends on exactly these bytes)
+		l.line("sent")
+		l.text = append(l.text, word...)
 	}
 	l.writeSent(received.Ack)
 	l.writeEvent(received.Event)
 	l.writeHanded(received.Query, number)
 }
 
-// refusalWords are the words for why a call was refused.
-var refusalWords = map[error]string{
-	serfagent.TooLarge: "TooLarge", serfagent.TooLong: "TooLong", serfagent.Exhausted: "Exhausted", serfagent.NoTime: "ZeroTimeout",
-	serfagent.PastDeadline: "PastDeadline", serfagent.NotPushPull: "NotPushPull", serfagent.RespondersFull: "RespondersFull",
-	serfagent.NotPending: "NoQuery",
+// refusalWord returns the word for why a call was refused, or "" if the call failed for another reason.
+func refusalWord(err error) string {
+	switch err {
+	case serfagent.TooLarge:
+		return "TooLarge"
+	case serfagent.TooLong:
+		return "TooLong"
+	case serfagent.Exhausted:
+		return "Exhausted"
+	case serfagent.NoTime:
+		return "ZeroTimeout"
+	case serfagent.PastDeadline:
+		return "PastDeadline"
+	case serfagent.NotPushPull:
+		return "NotPushPull"
+	case serfagent.RespondersFull:
+		return "RespondersFull"
+	case serfagent.NotPending:
+		return "NoQuery"
+	}
+	return ""
 }
 
 // writeRefusal writes the reply to a call that was refused. If the call failed for another reason, such as memory or
 // the disk, it writes nothing and returns false.
 func (l *lines) writeRefusal(err error, packet []byte) bool {
-	if word, ok := refusalWords[err]; ok {
+	if word := refusalWord(err); word != "" {
 		l.line("refused").word(word)
 		return true
 	}

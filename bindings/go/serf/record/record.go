@@ -1,13 +1,23 @@
-// Package record writes the calls to a proved agent and its replies to a file, in the format of docs/SPEC.md.
+// Package record writes the calls to a node's proved agent, and its replies, to a file. examples/records/README.md
+// describes the format, and examples/records/attest.py compares records with the reference.
 //
-// It writes after each call, so the record delays only the next call. If the record can't be written, the agent
-// continues without it. Each life begins with the text on which the agent was opened. So a reader can check whether
-// this text has everything that the previous life flushed (examples/attest).
+// A program passes Start to its node as serf.Config.Wrap:
+//
+//	config.Wrap = func(agent serf.Agent, opening serf.Opening) (serf.Agent, error) {
+//		return record.Start(agent, file, config.NodeName, opening, logger)
+//	}
+//
+// The record of a call is written when the call returns, so before the node acts on its results. If the record can't be
+// written, the node continues without it. Each life begins with the text on which the agent was opened. So a reader can
+// check whether this text has everything that the previous life flushed.
 package record
 
 import (
 	"encoding/binary"
+	"io"
 	"log"
+	"sort"
+	"strconv"
 	"sync"
 	"time"
 
@@ -16,9 +26,10 @@ import (
 )
 
 // heading begins each life and each file. If the call above it has no end, the program ended during that call.
-const heading = title + "2\n"
+const heading = title + "3\n"
 
-// title begins the heading of each version of the format. In version 1, each life began with clock lines.
+// title begins the heading of each version of the format. In version 1, each life began with clock lines. In version 2,
+// a query whose tag filters the node passed was written without these filters.
 const title = "# kitchenrue-agent record "
 
 // continued follows the heading of a file that a rotation started. The open call after it begins no new life.
@@ -27,6 +38,20 @@ const continued = "# goes on\n"
 // compacting is written before a compaction. If the program ends before the call is written, the snapshot may have the
 // old text or the new one.
 const compacting = "# compacting\n"
+
+// tagsPass is written before a query that has tag filters if the node's tags pass all of them. The format has no tags,
+// so a reader has to compare the query with the reference without these filters.
+const tagsPass = "# tags pass\n"
+
+// Output is where a record is written. A *File is an Output.
+type Output interface {
+	io.WriteCloser
+	// IsEmpty reports whether nothing was written yet, in this life or an earlier one.
+	IsEmpty() bool
+	// IsFull reports whether Rotate has to be called before the next Write. Rotate begins a new file.
+	IsFull() bool
+	Rotate() error
+}
 
 // Agent records the calls to a proved agent, in their order.
 type Agent struct {
@@ -37,30 +62,33 @@ type Agent struct {
 
 	// mu is held during a call and while its lines are written, so that the record has the calls in their order.
 	mu sync.Mutex
-	// file is nil after a write to it has failed.
-	file  *File
-	lines lines
-	// pending are the queries that were handed out in this life, by the library's numbers. handedOut counts all queries
-	// that were handed out in this life.
-	pending   map[uint64]*pendingQuery
+	// output is nil after a write to it has failed.
+	output Output
+	lines  lines
+	// now has the digits of the moment of the present burst.
+	now []byte
+	// pending are the queries that were handed out in this life and that the node has not forgotten, in the order of
+	// the library's numbers. handedOut counts all queries that were handed out in this life.
+	pending   []pendingQuery
 	handedOut uint64
 	// savedClock is the member clock in the last line that recorded it.
 	savedClock uint64
 }
 
-// pendingQuery is a query that was handed out. number counts from 0. deadline is the last moment at which it can be
-// answered.
+// pendingQuery is a query that was handed out. libraryNumber is the library's number of it, and number, which counts
+// from 0, that of the record. deadline is the last moment at which it can be answered.
 type pendingQuery struct {
-	number, deadline uint64
-	isAnswered       bool
+	libraryNumber, number, deadline uint64
+	isAnswered                      bool
 }
 
 var _ serf.Agent = &Agent{}
 
-// Start begins a life of this agent in a record, with the text on which the agent was opened.
-func Start(agent serf.Agent, file *File, name string, opening serf.Opening, logger *log.Logger) (*Agent, error) {
-	a := &Agent{Agent: agent, name: name, settings: opening.Settings, log: logger, file: file, pending: map[uint64]*pendingQuery{}}
-	if file.length > 0 {
+// Start begins a life of the agent of this name in a record, with the text on which the agent was opened. The record is
+// closed when the agent is.
+func Start(agent serf.Agent, output Output, name string, opening serf.Opening, logger *log.Logger) (*Agent, error) {
+	a := &Agent{Agent: agent, name: name, settings: opening.Settings, log: logger, output: output}
+	if !output.IsEmpty() {
 		// The previous life may have ended within a line.
 		a.lines.text = append(a.lines.text, '\n')
 	}
@@ -69,7 +97,7 @@ func Start(agent serf.Agent, file *File, name string, opening serf.Opening, logg
 		return nil, err
 	}
 	a.writeOpening(heading, opening.Text, clocks)
-	_, err = file.Write(a.lines.text)
+	_, err = output.Write(a.lines.text)
 	// (the text may be large)
 	a.lines.text = nil
 	return a, err
@@ -84,7 +112,7 @@ func (a *Agent) writeOpening(comment string, text []byte, clocks serfagent.Clock
 
 // write writes the time, and then the lines of calls. An error ends the record, but not the agent.
 func (a *Agent) write(writeLines func(*lines)) {
-	if a.file == nil {
+	if a.output == nil {
 		return
 	}
 	a.lines.text = a.lines.text[:0]
@@ -93,20 +121,20 @@ func (a *Agent) write(writeLines func(*lines)) {
 	if writeLines(&a.lines); len(a.lines.text) == linesStart {
 		return
 	}
-	_, err := a.file.Write(a.lines.text)
-	if err == nil && a.file.IsFull() {
+	_, err := a.output.Write(a.lines.text)
+	if err == nil && a.output.IsFull() {
 		err = a.rotate()
 	}
 	if err != nil {
 		a.log.Printf("[ERR] agent: the record ends, and the agent continues without it: %v", err)
-		a.file.Close()
-		a.file = nil
+		a.output.Close()
+		a.output = nil
 	}
 }
 
 // rotate starts a new file, with the agent's current clocks.
 func (a *Agent) rotate() error {
-	if err := a.file.Rotate(); err != nil {
+	if err := a.output.Rotate(); err != nil {
 		return err
 	}
 	clocks, err := a.Agent.Clocks()
@@ -115,7 +143,7 @@ func (a *Agent) rotate() error {
 	}
 	a.lines.text = a.lines.text[:0]
 	a.writeOpening(heading+continued, clockLines(clocks), clocks)
-	_, err = a.file.Write(a.lines.text)
+	_, err = a.output.Write(a.lines.text)
 	return err
 }
 
@@ -137,9 +165,16 @@ func (a *Agent) assignNumber(query *serfagent.PendingQuery) uint64 {
 		return 0
 	}
 	number := a.handedOut
-	a.pending[query.Number] = &pendingQuery{number: number, deadline: query.Deadline}
+	a.pending = append(a.pending, pendingQuery{libraryNumber: query.Number, number: number, deadline: query.Deadline})
 	a.handedOut++
 	return number
+}
+
+// findPending returns the place in pending of the query with this number of the library, or false if the query isn't
+// there.
+func (a *Agent) findPending(libraryNumber uint64) (int, bool) {
+	at := sort.Search(len(a.pending), func(i int) bool { return a.pending[i].libraryNumber >= libraryNumber })
+	return at, at < len(a.pending) && a.pending[at].libraryNumber == libraryNumber
 }
 
 // TakeAll records a delivery for each packet, and a firing for each event.
@@ -147,10 +182,11 @@ func (a *Agent) TakeAll(now uint64, packets []serf.Packet, firings []serf.Firing
 	a.mu.Lock()
 	defer a.mu.Unlock()
 	outcomes, err := a.Agent.TakeAll(now, packets, firings)
+	a.now = strconv.AppendUint(a.now[:0], now, 10)
 	a.write(func(l *lines) {
 		for i, outcome := range outcomes {
 			if i < len(packets) {
-				a.writeDelivery(l, now, packets[i], outcome)
+				a.writeDelivery(l, packets[i], outcome)
 			} else {
 				a.writeFiring(l, firings[i-len(packets)], outcome)
 			}
@@ -162,20 +198,33 @@ func (a *Agent) TakeAll(now uint64, packets []serf.Packet, firings []serf.Firing
 	return outcomes, err
 }
 
-// writeDelivery writes a packet and its result. The format has no tags. If a query has tag filters and this node passes
-// them, the query is written without these filters.
-func (a *Agent) writeDelivery(l *lines, now uint64, packet serf.Packet, outcome serfagent.Outcome) {
+// writeDelivery writes a packet and its result.
+func (a *Agent) writeDelivery(l *lines, packet serf.Packet, outcome serfagent.Outcome) {
 	var number uint64
 	if outcome.Received != nil {
 		number = a.assignNumber(outcome.Received.Query)
 	}
-	data := packet.Data
 	if packet.TagsPass {
-		data = serf.WithoutTagFilters(data)
+		// (if the filters can't be read, the packet isn't a query)
+		filters, _ := serfagent.FiltersOf(packet.Data)
+		l.writeTagsPass(filters)
 	}
-	l.line("deliver").bytes(data).number(now)
-	l.writeReceived(data, outcome, number)
+	l.line("deliver")
+	wordStart := len(l.text)
+	word := l.bytes(packet.Data).text[wordStart:]
+	l.text = append(append(l.text, ' '), a.now...)
+	l.writeReceived(packet.Data, word, outcome, number)
 	l.endReply()
+}
+
+// writeTagsPass writes that the node's tags pass the tag filters of the following query, if there are any.
+func (l *lines) writeTagsPass(filters [][]byte) {
+	for _, filter := range filters {
+		if serf.IsTagFilter(filter) {
+			l.text = append(l.text, tagsPass...)
+			return
+		}
+	}
 }
 
 // writeFiring writes a firing and its result.
@@ -234,7 +283,7 @@ func (a *Agent) LocalState(statuses []serfagent.Status, left []string) ([]byte, 
 	return packet, err
 }
 
-// Query records a query. Like a received one, it is written without its tag filters if this node passes them.
+// Query records a query of this node.
 func (a *Agent) Query(now uint64, id uint32, name string, payload []byte, params serfagent.QueryParams) (*serfagent.FiredQuery, error) {
 	a.mu.Lock()
 	defer a.mu.Unlock()
@@ -247,18 +296,15 @@ func (a *Agent) Query(now uint64, id uint32, name string, payload []byte, params
 		flags |= 2
 	}
 	a.write(func(l *lines) {
+		if params.TagsPass {
+			l.writeTagsPass(params.Filters)
+		}
 		l.line("query").number(now).number(uint64(id)).name(name).bytes(payload).number(uint64(params.Timeout)).number(flags)
 		for _, filter := range params.Filters {
-			if !params.TagsPass || !serf.IsTagFilter(filter) {
-				l.bytes(filter)
-			}
+			l.bytes(filter)
 		}
 		a.writeReply(l, err, nil, func() {
-			packet := query.Packet
-			if params.TagsPass {
-				packet = serf.WithoutTagFilters(packet)
-			}
-			l.line("queried").number(query.Time).writeSent(packet)
+			l.line("queried").number(query.Time).writeSent(query.Packet)
 			l.writeSent(query.Ack)
 			l.writeHanded(query.Query, a.assignNumber(query.Query))
 		})
@@ -271,7 +317,8 @@ func (a *Agent) Respond(now, number uint64, payload []byte) ([]byte, error) {
 	a.mu.Lock()
 	defer a.mu.Unlock()
 	packet, err := a.Agent.Respond(now, number, payload)
-	if query, ok := a.pending[number]; ok {
+	if at, ok := a.findPending(number); ok {
+		query := &a.pending[at]
 		reason := err
 		if err == serfagent.NotPending && !query.isAnswered && now > query.deadline {
 			// The library has forgotten the query, because its deadline passed.
@@ -290,7 +337,11 @@ func (a *Agent) Respond(now, number uint64, payload []byte) ([]byte, error) {
 func (a *Agent) Forget(number uint64) error {
 	a.mu.Lock()
 	defer a.mu.Unlock()
-	delete(a.pending, number)
+	if at, ok := a.findPending(number); ok && at == 0 {
+		a.pending = a.pending[1:]
+	} else if ok {
+		a.pending = append(a.pending[:at], a.pending[at+1:]...)
+	}
 	return a.Agent.Forget(number)
 }
 
@@ -374,9 +425,9 @@ func (a *Agent) CompactWith(text []byte) error {
 func (a *Agent) Close() error {
 	a.mu.Lock()
 	defer a.mu.Unlock()
-	if a.file != nil {
-		a.file.Close()
-		a.file = nil
+	if a.output != nil {
+		a.output.Close()
+		a.output = nil
 	}
 	return a.Agent.Close()
 }

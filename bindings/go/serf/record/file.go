@@ -12,8 +12,8 @@ import (
 // KeptFiles is how many older files of a record are kept.
 const KeptFiles = 8
 
-// File is the file of a record. When it is full, it becomes PATH.1, PATH.1 becomes PATH.2 and so on, and the oldest one
-// is removed.
+// File is a record in a file. When the file is full, it becomes PATH.1, PATH.1 becomes PATH.2 and so on, and the oldest
+// one is removed.
 type File struct {
 	path   string
 	limit  int64
@@ -72,6 +72,9 @@ func Open(path string, limit int64) (*File, error) {
 	}
 	return &File{path: path, limit: limit, file: file, length: info.Size()}, nil
 }
+
+// IsEmpty reports whether the file has no bytes.
+func (f *File) IsEmpty() bool { return f.length == 0 }
 
 // IsFull reports whether the file has reached its limit.
 func (f *File) IsFull() bool { return f.length >= f.limit }

@@ -14,10 +14,25 @@ import (
 	"testing"
 	"time"
 
-	"kitchenrue.example/agent/internal/testkit"
 	"kitchenrue.example/serf"
 	"kitchenrue.example/serfagent"
 )
+
+// must ends the test if err isn't nil.
+func must(t testing.TB, err error) {
+	t.Helper()
+	if err != nil {
+		t.Fatal(err)
+	}
+}
+
+// check reports err if it isn't nil, and lets the test continue.
+func check(t testing.TB, err error) {
+	t.Helper()
+	if err != nil {
+		t.Error(err)
+	}
+}
 
 // openRecorded opens a proved agent that ignores old events, and whose calls are recorded in NAME.record.
 func openRecorded(t *testing.T, name, folder string, limit int64, logger *log.Logger) *Agent {
@@ -31,11 +46,11 @@ func openRecorded(t *testing.T, name, folder string, limit int64, logger *log.Lo
 func openRecordedWith(t *testing.T, name, folder string, limit int64, settings serfagent.Settings, logger *log.Logger) *Agent {
 	t.Helper()
 	proved, text, err := serfagent.OpenWithText(name, filepath.Join(folder, name), settings)
-	testkit.Must(t, err)
+	must(t, err)
 	file, err := Open(filepath.Join(folder, name+".record"), limit)
-	testkit.Must(t, err)
+	must(t, err)
 	agent, err := Start(serf.Proved(proved), file, name, serf.Opening{Settings: settings, Text: text}, logger)
-	testkit.Must(t, err)
+	must(t, err)
 	t.Cleanup(func() { agent.Close() })
 	return agent
 }
@@ -81,7 +96,7 @@ var noLog = log.New(io.Discard, "", 0)
 func readRecord(t *testing.T, path string) string {
 	t.Helper()
 	text, err := os.ReadFile(path)
-	testkit.Must(t, err)
+	must(t, err)
 	return regexp.MustCompile(`(?m)^at \d{19}\n`).ReplaceAllString(string(text), "")
 }
 
@@ -89,15 +104,15 @@ func TestCallsAndReplies(t *testing.T) {
 	folder := t.TempDir()
 	a, b := openRecorded(t, "a", folder, 1<<20, noLog), openRecorded(t, "b", folder, 1<<20, noLog)
 	fired, err := fireEvent(a, "deploy", "v1", false)
-	testkit.Must(t, err)
+	must(t, err)
 	query, err := a.Query(5, 7, "load", nil, serfagent.QueryParams{Timeout: 1000, WantAck: true})
-	testkit.Must(t, err)
+	must(t, err)
 	outcomes, err := receivePackets(b, 9, fired, fired, query.Packet, []byte{}, []byte("\x03\x81\xa4Name\xa1"), []byte{9})
 	if err != nil || len(outcomes) != 6 {
 		t.Fatal(outcomes, err)
 	}
 	reply, err := b.Respond(10, outcomes[2].Received.Query.Number, []byte("1"))
-	testkit.Must(t, err)
+	must(t, err)
 	if _, err := b.Respond(10, outcomes[2].Received.Query.Number, nil); err != serfagent.NotPending {
 		t.Error(err)
 	}
@@ -116,7 +131,7 @@ func TestCallsAndReplies(t *testing.T) {
 		}
 	}
 	hexed := func(data []byte) string { return fmt.Sprintf("%x", data) }
-	want := "# kitchenrue-agent record 2\nopen 61 512 512 512 1024 ignore 1024 -\nopened 1 1 1\n\n" +
+	want := "# kitchenrue-agent record 3\nopen 61 512 512 512 1024 ignore 1024 -\nopened 1 1 1\n\n" +
 		"fire 6465706c6f79 7631 0\nfired 1\nsent " + hexed(fired) + "\nevent 1 6465706c6f79 7631 0\n\n" +
 		"query 5 7 6c6f6164 - 1000 1\nqueried 1\nsent " + hexed(query.Packet) + "\nsent " + hexed(query.Ack) +
 		"\nhanded 0 1 7 6c6f6164 -\n\n" +
@@ -127,7 +142,7 @@ func TestCallsAndReplies(t *testing.T) {
 	if found := readRecord(t, filepath.Join(folder, "a.record")); found != want {
 		t.Errorf("%s\nand not\n%s", found, want)
 	}
-	want = "# kitchenrue-agent record 2\nopen 62 512 512 512 1024 ignore 1024 -\nopened 1 1 1\n\n" +
+	want = "# kitchenrue-agent record 3\nopen 62 512 512 512 1024 ignore 1024 -\nopened 1 1 1\n\n" +
 		"deliver " + hexed(fired) + " 9\nnew\nsent " + hexed(fired) + "\nevent 1 6465706c6f79 7631 0\n\n" +
 		"deliver " + hexed(fired) + " 9\nignored Seen\n\n" +
 		"deliver " + hexed(query.Packet) + " 9\nquery\nsent " + hexed(query.Packet) + "\nsent " + hexed(outcomes[2].Received.Ack) +
@@ -145,7 +160,7 @@ func TestForgottenQueries(t *testing.T) {
 	folder := t.TempDir()
 	a := openRecorded(t, "a", folder, 1<<20, noLog)
 	var numbers []uint64
-	for _, timeout := range []time.Duration{10, 10, 1000} {
+	for _, timeout := range []time.Duration{10, 1000, 10} {
 		query, err := a.Query(5, 7, "load", nil, serfagent.QueryParams{Timeout: timeout})
 		if err != nil {
 			t.Fatal(err)
@@ -156,7 +171,7 @@ func TestForgottenQueries(t *testing.T) {
 	if err != nil {
 		t.Error(err)
 	}
-	if err := a.Forget(numbers[2]); err != nil {
+	if err := a.Forget(numbers[1]); err != nil {
 		t.Error(err)
 	}
 	if _, err := a.CloseDue(16); err != nil {
@@ -168,7 +183,7 @@ func TestForgottenQueries(t *testing.T) {
 		}
 	}
 	want := fmt.Sprintf(
-		"respond 0 6 -\nreplied\nsent %x\n\nclose 16\nclosed 2\n\nrespond 0 16 -\nrefused NoQuery\n\nrespond 1 16 -\nrefused PastDeadline\n\n",
+		"respond 0 6 -\nreplied\nsent %x\n\nclose 16\nclosed 2\n\nrespond 0 16 -\nrefused NoQuery\n\nrespond 2 16 -\nrefused PastDeadline\n\n",
 		reply,
 	)
 	if found := readRecord(t, filepath.Join(folder, "a.record")); !strings.HasSuffix(found, want) {
@@ -183,7 +198,7 @@ func TestStatesClocksAndLives(t *testing.T) {
 		t.Fatal(err)
 	}
 	state, err := a.LocalState([]serfagent.Status{{Name: "a", Time: 3}}, nil)
-	testkit.Must(t, err)
+	must(t, err)
 	if _, err := b.Merge(state, false); err != nil {
 		t.Error(err)
 	}
@@ -191,20 +206,20 @@ func TestStatesClocksAndLives(t *testing.T) {
 		t.Error(err)
 	}
 	for i := 0; i < 2; i++ {
-		testkit.Check(t, b.ObserveMember(6))
-		testkit.Check(t, b.SaveMemberClock())
+		check(t, b.ObserveMember(6))
+		check(t, b.SaveMemberClock())
 	}
 	if time, err := b.NextMemberTime(); time != 7 || err != nil {
 		t.Error(time, err)
 	}
-	testkit.Check(t, b.CompactWith(nil))
+	check(t, b.CompactWith(nil))
 	b.Close()
 	openRecorded(t, "b", folder, 1<<20, noLog)
 	observed := func(time uint64) string { return fmt.Sprintf("merge 0281a54c54696d65cf%016x sync\nmerged\n\n", time+1) }
-	want := "# kitchenrue-agent record 2\nopen 62 512 512 512 1024 ignore 1024 -\nopened 1 1 1\n\n" +
+	want := "# kitchenrue-agent record 3\nopen 62 512 512 512 1024 ignore 1024 -\nopened 1 1 1\n\n" +
 		fmt.Sprintf("merge %x sync\nmerged\nevent 1 78 - 0\n\n", state) + "merge 0380 join\nrefused NotPushPull\n\n" +
 		observed(6) + "save\nsaved\n\n" + observed(7) + "save\nsaved\n\n# compacting\ncompact\ncompacted\n\n" +
-		"\n# kitchenrue-agent record 2\n" +
+		"\n# kitchenrue-agent record 3\n" +
 		fmt.Sprintf("open 62 512 512 512 1024 ignore 1024 %x\nopened 8 2 1\n\n", "clock: 7\nevent-clock: 1\n")
 	if found := readRecord(t, filepath.Join(folder, "b.record")); found != want {
 		t.Errorf("%s\nand not\n%s", found, want)
@@ -232,7 +247,7 @@ func TestRotation(t *testing.T) {
 		}
 		text := readRecord(t, name)
 		var first uint64
-		head := "# kitchenrue-agent record 2\n# goes on\nopen 61 512 512 512 1024 ignore 1024 "
+		head := "# kitchenrue-agent record 3\n# goes on\nopen 61 512 512 512 1024 ignore 1024 "
 		if _, err := fmt.Sscanf(text[strings.Index(text, "opened"):], "opened 1 %d 1", &first); err != nil ||
 			!strings.HasPrefix(text, head) {
 			t.Fatalf("%s: %v %.200s", name, err, text)
@@ -256,12 +271,12 @@ func TestRotation(t *testing.T) {
 func TestUnusableRecords(t *testing.T) {
 	folder := t.TempDir()
 	pipe := filepath.Join(folder, "pipe")
-	testkit.Must(t, syscall.Mkfifo(pipe, 0o600))
+	must(t, syscall.Mkfifo(pipe, 0o600))
 	first, err := Open(filepath.Join(folder, "locked"), 1)
-	testkit.Must(t, err)
+	must(t, err)
 	defer first.Close()
 	notARecord := filepath.Join(folder, "other")
-	testkit.Write(t, notARecord, "event-clock: 1\n")
+	must(t, os.WriteFile(notARecord, []byte("event-clock: 1\n"), 0o600))
 	for path, says := range map[string]string{
 		folder: "is a directory", filepath.Join(folder, "none", "none"): "no such file",
 		filepath.Join(folder, "locked"): "another program has",
@@ -282,8 +297,9 @@ func TestFullDisk(t *testing.T) {
 	if err != nil {
 		t.Skip(err)
 	}
-	a.file.file.Close()
-	a.file.file = full
+	file := a.output.(*File)
+	file.file.Close()
+	file.file = full
 	for i := 0; i < 3; i++ {
 		if _, err := fireEvent(a, "x", "", false); err != nil {
 			t.Fatal(err)
