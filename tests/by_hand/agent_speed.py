@@ -1,15 +1,17 @@
 """By hand, since it needs Go, Serf and memberlist's sources: how fast ours and a stock agent accept events, and how soon they join.
 
     tests/by_hand/agent_speed.py [--events N] [--rounds N] [--starts N] [--record] [--keep-events] [--on FOLDER] [--library FOLDER]
-        [--agent PROGRAM]
+        [--agent PROGRAM] [--other PROGRAM]
 
 In each round a fresh agent of each kind, alone, on a fresh snapshot, gets the same new events by UDP, sixteen in a datagram
 as memberlist packs them, with so many under way at once. Its hand-outs are counted on a stream of its RPC. The kinds take turns,
 so that the load of the machine is the same for both. --record adds a third kind, ours with a record. --keep-events adds ours that keeps
-events, with its handlers tracked and without, and says how large their snapshots are. Then each kind is started and
-joins a stock agent, in turns: from the start of the process to the line that says that it joined.
+events, with its handlers tracked and without, and says how large their snapshots are. --other adds another agent of ours, such as that of
+another commit, and with --record also this agent with a record. Then each kind is started and joins a stock agent, in turns: from the start
+of the process to the line that says that it joined.
 
-The last lines have the median of each kind, its minimum and its maximum.
+The last lines have the median of each kind, its minimum and its maximum. For each kind with a record, they also have the median of each
+round's ratio to the same agent without a record.
 """
 
 import argparse
@@ -29,6 +31,9 @@ import agent_cluster_kit as kit
 from agent_cluster_kit import Agent
 
 UNDER_WAY, PACKED, LIMIT = 512, 16, 120
+
+# The end of the name of a kind with a record.
+RECORDING = " with a record"
 
 # The kinds of --keep-events, and their flags.
 UNTRACKED, TRACKED = "ours that keeps events", "ours that tracks handlers"
@@ -145,18 +150,21 @@ def main():
     parser.add_argument("--on", help="the folder, and so the disk, of the snapshots")
     parser.add_argument("--library")
     parser.add_argument("--agent")
+    parser.add_argument("--other")
     options = parser.parse_args()
     missing = kit.missing_command()
     if missing:
         sys.exit(f"it needs {missing}")
     folder = tempfile.mkdtemp(prefix="agent-speed-", dir=options.on)
     program = options.agent or kit.build(folder, options.library, [])
-    kinds = {"stock": ["serf", "agent"], "ours": [program]} | ({"ours with a record": [program]} if options.record else {})
+    kinds = {"stock": ["serf", "agent"], "ours": [program]} | ({f"ours{RECORDING}": [program]} if options.record else {})
+    if options.other:
+        kinds |= {"other": [options.other]} | ({f"other{RECORDING}": [options.other]} if options.record else {})
     kinds |= {UNTRACKED: [program], TRACKED: [program]} if options.keep_events else {}
 
     def agent(kind, number):
         found = Agent(folder, kinds[kind], f"{kind.split()[0]}{number}", number, net="127.0.9")
-        found.words = ["-snapshot", found.snapshot] + (["-record", found.record] if "record" in kind else []) + KEEPING.get(kind, [])
+        found.words = ["-snapshot", found.snapshot] + (["-record", found.record] if kind.endswith(RECORDING) else []) + KEEPING.get(kind, [])
         return found
 
     speeds, costs, times = ({kind: [] for kind in kinds} for _ in range(3))
@@ -190,6 +198,10 @@ def main():
         if options.rounds:
             print_row("accepted", speeds, "events a second")
             print_row("an event", costs, "us of the processor")
+            for kind in kinds:
+                if kind.endswith(RECORDING):
+                    ratios = [own / without for own, without in zip(speeds[kind], speeds[kind.removesuffix(RECORDING)])]
+                    print(f"accepted, {kind}: {statistics.median(ratios):.3f} of the same agent without a record ({min(ratios):.3f} to {max(ratios):.3f})")
         if options.starts:
             print_row("from start to joined", times, "ms")
     finally:
