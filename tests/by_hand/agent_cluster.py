@@ -14,9 +14,11 @@ the nodes that had them before the others receive them. A node that starts while
 again, and may stay alone; with --retry-join all but stock agents keep trying. The run ends after so many minutes, kills or events,
 whichever is first. Then the cluster rests for --rest seconds after all nodes see one another (120, or 5 if no agent keeps its events:
 a node gets what it lacks from the states, which agents exchange every 30 seconds). Then `serf-replay judge` reads the log of all
-handlers except stock's, with their snapshots.
+handlers except stock's, with their snapshots, and the records of ours have to be attested, with these logs and files
+(`tests/attestation.py`).
 
-The script fails if a handler ran an event or a query twice, except on a stock agent, or if the judge finds an error. It also prints
+The script fails if a handler ran an event or a query twice, except on a stock agent, if the judge finds an error, or if the records aren't
+attested. It also prints
 how often stock's handlers ran something twice, and for each kind how many of the accepted events never ran; those of ours that keep
 their events are a separate kind. Events that only their firer ever had are counted separately: no other handler ran them, and no
 other file that keeps events has them. For ours the script prints why: by their records, and for those that keep their events by their
@@ -36,11 +38,16 @@ import time
 sys.path.insert(0, os.path.dirname(os.path.abspath(__file__)))
 sys.dont_write_bytecode = True
 import agent_cluster_kit as kit
+import attestation
 import c_library
+import checks
 
 sys.path.insert(0, os.path.join(kit.TOP, "conformance", "python"))
 from serf_agent import kept
 from agent_cluster_kit import Agent, until
+
+# The end of the name of the log of a node's handlers.
+LOGS = ".events"
 
 # What the handlers do: a line for the judge. Names and payloads have no space here.
 LINES = {
@@ -83,13 +90,13 @@ def cluster(folder, programs, asked):
     agents = []
     for number, kind in enumerate(kinds, 1):
         agent = Agent(folder, programs[kind], f"{kind.split()[0]}{number}", number, net=asked.net)
-        agent.kind, agent.is_proved, agent.events = kind, kind != STOCK, os.path.join(folder, f"{agent.name}.events")
+        agent.kind, agent.is_proved, agent.events = kind, kind != STOCK, os.path.join(folder, agent.name + LOGS)
         agent.left = []
         agent.words = ["-snapshot", agent.snapshot]
         for of, line in LINES.items():
             agent.words += ["-event-handler", f"{of}={line} >>{agent.events}"]
         if kind in (OURS, KEEPS):
-            agent.words += ["-keep-events"] if kind == KEEPS else ["-record", agent.record]
+            agent.words += ["-record", agent.record, *(["-keep-events"] if kind == KEEPS else [])]
         if agent.is_proved:
             agent.faults = os.path.join(folder, f"{agent.name}.faults")
             agent.env = {**os.environ, "KITCHENRUE_FAULTS": agent.faults}
@@ -308,11 +315,13 @@ def main():
     repeats = print_results(agents, torment)
     status, text = run_judge(agents, folder, asked.judge)
     print(text, end="")
+    count = checks.Checks()
+    attestation.check_attested(count, folder, LOGS)
     if asked.keep:
         print(f"the files are in {folder}")
     else:
         shutil.rmtree(folder)
-    good = status == 0 and repeats[OURS] == repeats[KEEPS] == repeats[SERF] == 0
+    good = status == 0 and repeats[OURS] == repeats[KEEPS] == repeats[SERF] == 0 and not count.failed
     print("passed" if good else "FAILED")
     return 0 if good else 1
 

@@ -10,12 +10,12 @@ while they start. Each starts again on its snapshot. The run ends after so many 
 rests, until no handler of ours has run for --rest seconds (agents exchange their states every 30 seconds) and no event of theirs is
 open.
 
-On each node of ours, each event that a `serf event` confirmed and that reached the node has to be exactly one of these: its handler ran
-once to its end; it began, was cut off, and a start reported that; or it still waits. No handler may begin twice, and no event may be
-without a word. An event has reached a node if its handler began there, or if the node's file had its line at a kill or at the end. What
-a node of ours confirmed has to reach all nodes of ours, since a node keeps what it fired. What a stock agent confirmed and never sent
-is counted, and so is what became of events on the stock agents, as a measure. It needs Go and memberlist, or --agent, and Debian's
-`serf`.
+On each node of ours, each event that a `serf event` confirmed and that reached the node has to be exactly one of these: its handler ran once
+to its end; it began, was cut off, and a start reported that; or it still waits. No handler may begin twice, and no event may be without a
+word. An event has reached a node if its handler began there, or if the node's file had its line at a kill or at the end. What a node of ours
+confirmed has to reach all nodes of ours, since a node keeps what it fired. What a stock agent confirmed and never sent is counted, and so is
+what became of events on the stock agents, as a measure. Our agents record, and their records have to be attested, with their files
+(`tests/attestation.py`). It needs Go and memberlist, or --agent, Debian's `serf`, and the built program for the records.
 """
 
 import argparse
@@ -34,6 +34,8 @@ import time
 sys.path.insert(0, os.path.dirname(os.path.abspath(__file__)))
 sys.dont_write_bytecode = True
 import agent_cluster_kit as kit
+import attestation
+import checks
 import once
 from agent_cluster_kit import Agent, until
 
@@ -73,7 +75,7 @@ class Node(Agent):
         self.words = ["-snapshot", self.snapshot, "-event-handler", f"user:n={HANDLER.format(self.handler_log)}"]
         if self.kind == "ours":
             joins = [word for other in others for word in ("-retry-join", other.addr)]
-            self.words += ["-keep-events", "-retry-interval", "1s", *joins]
+            self.words += ["-keep-events", "-record", self.record, "-retry-interval", "1s", *joins]
 
     def is_up(self):
         return self.process is not None and self.process.poll() is None and (self.starting is None or not self.starting.is_alive())
@@ -370,10 +372,12 @@ def main():
     failed = {what: found for what, found in wrong.items() if found}
     for what, found in failed.items():
         print(f"FAILED: {len(found)} {what}: {found[:20]}")
+    count = checks.Checks()
+    count.add(len(wrong) - len(failed), len(failed))
+    attestation.check_attested(count, folder)
     if not asked.keep:
         shutil.rmtree(folder, ignore_errors=True)
-    print(f"{len(wrong) - len(failed)} passed, {len(failed)} failed")
-    return 1 if failed else 0
+    return count.finish()
 
 
 if __name__ == "__main__":

@@ -1,5 +1,5 @@
 """The agent for operators (`agent/`): builds and packs it as its page says, formats and vets it, runs its own tests and those of the
-package serf that it uses under Go's race detector, turns what they recorded into a schedule
+package serf that it uses under Go's race detector, attests what they recorded, turns it into a schedule
 (`examples/records/schedule_of_records.py`), and tries what the pages show of agents (`agent/shown.py`).
 
     tests/library/agent.py [--library FILE] [--over-ci]
@@ -17,9 +17,11 @@ import shlex
 import shutil
 import sys
 import tempfile
+from concurrent.futures import ThreadPoolExecutor
 
 sys.dont_write_bytecode = True
 sys.path.insert(0, os.path.dirname(os.path.dirname(os.path.abspath(__file__))))
+import attestation
 import checks
 import c_library
 from checks import TOP
@@ -134,6 +136,24 @@ def scheduled(count, what, *words):
     status, trace, said = checks.run_program(["replay"], schedule)
     count.check(f"{what}: it runs", status == 0, said)
     return written, schedule, trace.decode().splitlines()
+
+
+# The longest record that is attested, in bytes, and the minimum number of tests whose records are. Some tests flood an agent.
+MAX_RECORD, MIN_ATTESTED = 1 << 20, 15
+
+
+def attested(count, folder):
+    """What the tests recorded: three nodes together, and each record of another test alone."""
+    others = [node for node in attestation.recorded_nodes(folder) if node.startswith("Test")]
+    small = [node for node in others if os.path.getsize(os.path.join(folder, f"{node}.record")) <= MAX_RECORD]
+    with ThreadPoolExecutor(2) as lanes:
+        for node, (status, output) in zip(small, lanes.map(lambda node: attestation.attest(folder, nodes=[node]), small)):
+            count.check(f"the record of {node} is attested", status == 0 and output.startswith("attested: 1 nodes, "), output)
+    print(f"{len(small)} of {len(others)} records of tests are attested; the others have more than {MAX_RECORD:,} bytes")
+    count.check("enough records are attested", len(small) >= MIN_ATTESTED, others)
+    for node in others:
+        os.remove(os.path.join(folder, f"{node}.record"))
+    attestation.check_attested(count, folder, None, "--whole")
 
 
 def recorded(count, folder):
@@ -287,6 +307,7 @@ def tested(count, folder, own):
     if not os.path.exists(checks.PROGRAM):
         count.check("the program is built", False, "./prove makes it, and SERF_UNPROVED=1 uses the one that ./serf-replay compiled")
         return
+    attested(count, records)
     recorded(count, records)
     shown_of_records(count, records)
     cut_off(count, records)

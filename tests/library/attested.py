@@ -4,9 +4,9 @@ handler ran again.
     tests/library/attested.py [--library FILE] [--over-ci] [--ours N] [--stock N] [--kills N] [--seed N] [--keep]
 
 Processes of `kitchenrue-agent`, every second one with `-keep-events`, and stock agents run next to each other. Events and queries are
-fired at random nodes, and random nodes of ours are killed by SIGKILL and started again. Then the records, the snapshots and the
-handlers' logs of our nodes have to be attested. Afterwards, the newest flushed line is taken out of the snapshot of a killed node, and
-a handler's line is doubled: attest.py has to refuse that, and to name the file.
+fired at random nodes, and random nodes of ours are killed by SIGKILL and started again. Then the records, the snapshots and the handlers' logs
+of our nodes have to be attested. A snapshot without a flushed line, and a log with a handler's line twice, have to be refused. Afterwards, the
+newest flushed line is taken out of the snapshot of a node, which is then started again: attest.py has to refuse that life.
 
 Go and the sources of memberlist and of Serf have to be installed (`tools/packages`); otherwise the script prints what is missing, and
 checks nothing. Without Debian's `serf` nothing is fired, so it is needed too. --library names another static library than that of
@@ -25,6 +25,7 @@ import time
 
 sys.dont_write_bytecode = True
 sys.path.insert(0, os.path.dirname(os.path.dirname(os.path.abspath(__file__))))
+import attestation
 import checks
 import c_library
 import programs
@@ -33,8 +34,10 @@ sys.path.insert(0, os.path.join(checks.TOP, "tests", "by_hand"))
 import agent_cluster_kit as kit
 from agent_cluster_kit import until
 
-ATTEST = os.path.join(checks.EXAMPLES, "records", "attest.py")
 HANDLER = os.path.join(checks.EXAMPLES, "serf_log_handler.sh")
+
+# The end of the name of a node's log of its handlers.
+LOGS = ".handlers"
 
 # How long the nodes may take to hear of the last event, in seconds.
 REST = 60
@@ -45,7 +48,7 @@ class Recorded(kit.Agent):
 
     def __init__(self, folder, program, number, keeps):
         super().__init__(folder, program, f"ours{number}", number, net="127.0.9")
-        self.log_of_handler, self.keeps = os.path.join(folder, f"{self.name}.handlers"), keeps
+        self.log_of_handler, self.keeps = os.path.join(folder, self.name + LOGS), keeps
         self.env = {**os.environ, "SERF_LOG": self.log_of_handler}
         self.words = ["-snapshot", self.snapshot, "-record", self.record, "-event-handler", f"user={HANDLER}", "-profile", "local"]
         self.words += ["-retry-interval", "1s", *(["-keep-events"] if keeps else ["-replay"])]
@@ -127,34 +130,20 @@ class Cluster:
             node.end()
 
 
-def attest(nodes, *words):
-    """What attest.py says of these nodes: its status and its text."""
-    logs = [word for node in nodes for word in ("--handlers", node.log_of_handler) if os.path.exists(node.log_of_handler)]
-    snapshots = [word for node in nodes for word in ("--snapshot", f"{node.name}={node.snapshot}")]
-    result = subprocess.run(
-        [sys.executable, ATTEST, "--program", checks.PROGRAM, *[node.record for node in nodes], *logs, *snapshots, *words],
-        capture_output=True,
-        text=True,
-    )
-    return result.returncode, result.stdout + result.stderr
-
-
 def lives(node):
     """How many lives the record of a node has."""
     with open(node.record, encoding="ascii", errors="replace") as file:
         return len(re.findall(r"^# kitchenrue-agent record", file.read(), re.M))
 
 
-def check_day(count, cluster):
-    status, output = attest(cluster.ours)
-    count.check("the day is attested", status == 0 and output.startswith(f"attested: {len(cluster.ours)} nodes, "), output)
+def check_day(count, cluster, folder):
+    status, output = attestation.attest(folder, LOGS)
     count.check("it has the kills", sum(map(lives, cluster.ours)) == len(cluster.ours) + cluster.kills, output)
     count.check("each node handed out events", all(node.events() for node in cluster.ours) and cluster.fired > cluster.kills, output)
     count.check("handlers ran", re.search(r"\n  [1-9]\d* runs of handlers", output), output)
-    print(output, end="")
 
 
-def check_lost_line(count, cluster, keeps, kind):
+def check_life_without_line(count, cluster, folder, keeps, kind):
     """A node whose disk lost its newest line of a kind, and that was started again, isn't attested."""
     node = next(node for node in cluster.ours if node.keeps == keeps)
     with open(node.snapshot, "rb") as file:
@@ -162,34 +151,12 @@ def check_lost_line(count, cluster, keeps, kind):
     last = max(at for at, line in enumerate(lines) if line.startswith(kind))
     with open(node.snapshot, "wb") as file:
         file.write(b"".join(lines[:last] + lines[last + 1 :]))
-    status, output = attest([node])
-    count.check(
-        f"a snapshot without {lines[last]!r}",
-        status == 1 and f"the snapshot of {node.name} lost what was flushed" in output and node.snapshot in output,
-        output,
-    )
+    before = lives(node)
     node.start()
-    until(lambda: lives(node) > 0)
+    until(lambda: lives(node) > before)
     node.end()
-    status, output = attest([node])
-    count.check(
-        f"a life without {lines[last]!r}",
-        status == 1 and f"the snapshot of {node.name} lost what was flushed before the life" in output and node.record in output,
-        output,
-    )
-
-
-def check_doubled_run(count, cluster):
-    node = cluster.ours[0]
-    with open(node.log_of_handler, encoding="ascii") as file:
-        lines = file.read().splitlines(True)
-    with open(node.log_of_handler, "a", encoding="ascii") as file:
-        file.write(lines[0])
-    status, output = attest(cluster.ours)
-    named = f"{node.log_of_handler}:{len(lines) + 1}: a handler of {node.name} ran again for the event"
-    count.check("a handler's line twice", status == 1 and named in output, output)
-    with open(node.log_of_handler, "w", encoding="ascii") as file:
-        file.writelines(lines)
+    status, output = attestation.attest(folder, nodes=[node.name])
+    count.check(f"a life without {lines[last]!r}", status == 1 and f"the snapshot of {node.name} lost what was flushed before the life" in output and node.record in output, output)
 
 
 def arguments():
@@ -223,10 +190,10 @@ def main():
         cluster = Cluster(folder, program, asked)
         cluster.run()
         cluster.end()
-        check_day(count, cluster)
-        check_doubled_run(count, cluster)
-        check_lost_line(count, cluster, False, b"event-clock: ")
-        check_lost_line(count, cluster, True, b"#event ")
+        attestation.check_attested(count, folder, LOGS)
+        check_day(count, cluster, folder)
+        check_life_without_line(count, cluster, folder, False, b"event-clock: ")
+        check_life_without_line(count, cluster, folder, True, b"#event ")
     finally:
         if cluster:
             cluster.end()

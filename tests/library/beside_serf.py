@@ -7,7 +7,8 @@ that no event and no query runs twice on a node of ours, despite losses, repeats
 Each node is a separate process with its own loopback address; ours are the program of bindings/go/beside_serf/node. Some of what a
 node of ours sends and receives by UDP is lost, repeated or late. Events are fired at random nodes, and a random node is killed
 by SIGKILL and started again on its file. If there is a built program (or --judge), `serf-replay judge` reads the log of everything
-that was handed out on ours, with their files.
+that was handed out on ours, with their files. If there is a built program, the records of our nodes have to be attested, with these logs
+and files (`tests/attestation.py`).
 
 Go, memberlist and Debian's package `serf` have to be installed (`tools/packages`); otherwise the script prints what is missing, and
 checks nothing. --library names another static library than that of crates/serf_agent_c, which is built otherwise; --over-ci builds it over
@@ -29,6 +30,7 @@ import time
 
 sys.dont_write_bytecode = True
 sys.path.insert(0, os.path.dirname(os.path.dirname(os.path.abspath(__file__))))
+import attestation
 import checks
 import c_library
 from checks import TOP
@@ -38,6 +40,9 @@ import agent_cluster_kit as kit
 from agent_cluster_kit import until
 
 HANDLER = os.path.join(TOP, "examples", "serf_log_handler.sh")
+
+# The end of the name of the log of what was handed out on a node.
+LOGS = ".events"
 
 # The shares of packets that are lost, repeated and late on a node of ours (by the transport in `bindings/go/serf/faults.go`).
 CHANCES = "lose 0.15\nrepeat 0.1\nlate 0.2\n"
@@ -78,7 +83,7 @@ class Stock(kit.Agent):
 
     def __init__(self, folder, number, net):
         super().__init__(folder, ["serf", "agent"], f"stock{number}", number, net=net)
-        self.events = os.path.join(folder, f"{self.name}.events")
+        self.events = os.path.join(folder, self.name + LOGS)
         self.words = ["-snapshot", self.snapshot, "-tag", "kind=stock", "-event-handler", f"user=SERF_LOG={self.events} sh {HANDLER}"]
 
     def fire(self, name, text):
@@ -101,10 +106,9 @@ class Ours:
 
     def __init__(self, folder, program, number, net):
         self.name, self.addr, self.process = f"ours{number}", f"{net}.{number}", None
-        self.snapshot, self.events, self.log, self.faults = (
-            os.path.join(folder, f"{self.name}.{end}") for end in ("snapshot", "events", "log", "faults")
-        )
+        self.snapshot, self.events, self.log, self.faults = (os.path.join(folder, self.name + end) for end in (".snapshot", LOGS, ".log", ".faults"))
         self.words = [program, "-name", self.name, "-bind", self.addr, "-snapshot", self.snapshot, "-log", self.events]
+        self.words += ["-record", os.path.join(folder, f"{self.name}.record")]
         self.tags, self.others = {"kind": "ours", "node": self.name}, []
         self.put_faults()
 
@@ -375,6 +379,7 @@ def run(count, asked_, library, folder):
     finally:
         for node in nodes:
             node.end()
+    attestation.check_attested(count, folder, LOGS)
 
 
 def main():

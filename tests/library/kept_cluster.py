@@ -17,7 +17,8 @@ missed an event, the cause is one of these, by the node's files as its kills lef
 - other: everything else, such as an event that never arrived.
 
 The script fails if an event ran twice on a node, or if a node missed one event in a thousand or more. With --without the files keep
-no events: then missed events are only reported. `tests/by_hand/kept_cluster_long.py` runs both for longer.
+no events: then missed events are only reported. If there is a built program, the records of the nodes have to be attested, with their logs
+and files, and one of them has to have made each packet (`tests/attestation.py`). `tests/by_hand/kept_cluster_long.py` runs both for longer.
 
 Go and the sources of memberlist and of Serf have to be installed (`tools/packages`); otherwise the script prints what is missing, and
 checks nothing. --library names another static library than that of crates/serf_agent_c, which is built otherwise; --over-ci builds it
@@ -37,6 +38,7 @@ import time
 
 sys.dont_write_bytecode = True
 sys.path.insert(0, os.path.dirname(os.path.dirname(os.path.abspath(__file__))))
+import attestation
 import checks
 import c_library
 from checks import TOP
@@ -261,6 +263,7 @@ def run(count, asked, library, folder):
     if not asked.without:
         missed = told.missed.total() - (told.missed["in flight"] if told.pairs < FEW else 0)
         count.check(f"less than 1 in {MISSED:,} was missed", MISSED * missed < told.pairs, told.said())
+    attestation.check_attested(count, folder, beside_serf.LOGS, "--whole")
 
 
 def main():

@@ -6,7 +6,8 @@
 
 Without options it plays the fixed seeds and some new ones, plays one seed twice and compares the logs, and plays wrong bodies of the node,
 each of which has to break a promise. A seed that breaks a promise is played again without some of its steps and nodes, as long as it
-still breaks the same promise; what remains is printed. docs/SIMULATION.md says what is simulated and what is checked.
+still breaks the same promise; what remains is printed. If there is a built program, the nodes record, and their records have to be attested
+(`tests/attestation.py`). docs/SIMULATION.md says what is simulated and what is checked.
 
 --seed plays one seed, with --log FILE for the full log. --new N adds N new seeds, which the commit's hash selects (the gate: 4).
 --planted NAME plays one wrong body from the first seed on, and --all all of them; without these options they begin with the seeds that
@@ -32,6 +33,7 @@ from concurrent.futures import ThreadPoolExecutor
 
 sys.dont_write_bytecode = True
 sys.path.insert(0, os.path.dirname(os.path.dirname(os.path.abspath(__file__))))
+import attestation
 import checks
 import c_library
 import evidence
@@ -46,6 +48,12 @@ FIXED, NEW, TWICE = range(1, 13), 4, 4
 
 # For how long there are failures in a run.
 LENGTH = "4m"
+
+# The end of the name of the log of what was handed out on a node.
+LOGS = ".handlers"
+
+# A wrong body whose records attest.py has to refuse.
+NOT_ATTESTED = "last-line"
 
 # A wrong body has to be found within so many seeds.
 MAX_SEEDS = 20
@@ -170,14 +178,39 @@ class Smaller:
         return f"cluster -seed {self.seed} {words}\n" + "\n".join(left[:40])
 
 
+def recorded_run(count, simulator, seed, *words):
+    """Plays a seed, and checks that its records are attested if it breaks no promise."""
+    with tempfile.TemporaryDirectory(dir=simulator.folder) as records:
+        run = simulator.run(seed, *words, "-record", records)
+        if not run.is_broken and os.path.exists(checks.PROGRAM):
+            status, output = attestation.attest(records, LOGS)
+            count.check(f"the records of seed {seed} are attested", status == 0, output)
+    return run
+
+
 def check_seed(count, simulator, seed, words, log=()):
     """Plays a seed. If it breaks a promise, it is made smaller, and what remains is printed."""
-    run = simulator.run(seed, *words, *log)
+    run = recorded_run(count, simulator, seed, *words, *log)
     seen = run.said
     if run.is_broken:
         seen = f"{seen}\nsmaller: {Smaller(simulator, seed, words, run.promise).shrink()}"
     count.check(f"seed {seed} breaks no promise", not run.is_broken, seen)
     return run
+
+
+def check_records(count, simulator):
+    """A run with records writes the same log as one without. Its records are attested, and those of a wrong body aren't."""
+    words = ["-length", "1m"]
+    with tempfile.TemporaryDirectory(dir=simulator.folder) as records:
+        runs = [simulator.run(TWICE, *words, *more) for more in ([], ["-record", records])]
+        count.check("records change nothing in a run", runs[0].counts == runs[1].counts, [run.counts for run in runs])
+        attestation.check_attested(count, records, LOGS)
+    if not os.path.exists(checks.PROGRAM):
+        return
+    with tempfile.TemporaryDirectory(dir=simulator.folder) as records:
+        simulator.run(1, "-planted", NOT_ATTESTED, *words, "-record", records)
+        status, output = attestation.attest(records)
+        count.check(f"the records of {NOT_ATTESTED} aren't attested", status == 1 and output.startswith("not attested: "), output)
 
 
 def check_log(count, simulator, seed):
@@ -232,7 +265,7 @@ def play_hours(count, simulator, hours, length, workers):
     lived, next_seed = 0.0, first
 
     def play(seed):
-        return seed, simulator.run(seed, "-length", length)
+        return seed, recorded_run(count, simulator, seed, "-length", length)
 
     with ThreadPoolExecutor(workers) as pool:
         while lived < hours:
@@ -281,6 +314,7 @@ def play(count, simulator, asked):
         with ThreadPoolExecutor(jobs()) as pool:
             list(pool.map(lambda seed: check_seed(count, simulator, seed, ["-length", LENGTH]), [*FIXED, *new]))
         check_log(count, simulator, TWICE)
+        check_records(count, simulator)
         check_planted(count, simulator, [name for name in planted.FAULTS if name not in planted.SLOW], False)
 
 

@@ -207,7 +207,7 @@ def things_to_add():
 
 
 # What the scripts of tests/ share, outside of their folders.
-SHARED = {"checks.py", "filler.py", "pages.py", "piped_agents.py", "traced_agents.py", "one_agent.py", "browser.py"}
+SHARED = {"attestation.py", "checks.py", "filler.py", "pages.py", "piped_agents.py", "traced_agents.py", "one_agent.py", "browser.py"}
 
 
 def missing_scripts(page):

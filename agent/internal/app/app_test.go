@@ -40,8 +40,11 @@ func parseConfig(t testing.TB, words ...string) config.Config {
 // startApp starts an agent on loopback with these flags, and returns it and its output.
 func startApp(t testing.TB, words ...string) (*App, *testkit.Output) {
 	t.Helper()
-	out := &testkit.Output{}
-	a, err := Start(parseConfig(t, words...), out)
+	conf, out := parseConfig(t, words...), &testkit.Output{}
+	if conf.Record == "" {
+		conf.Record = recordOf(t, conf.Snapshot)
+	}
+	a, err := Start(conf, out)
 	testkit.Must(t, err)
 	return a, out
 }

@@ -140,10 +140,12 @@ func TestResumedLife(t *testing.T) {
 	}
 }
 
-// writeSnapshot writes a snapshot, and records for tests/library/snapshot_lives.py that the test itself wrote it.
+// writeSnapshot writes a snapshot, and records for tests/library/snapshot_lives.py that the test itself wrote it. The
+// next life on this snapshot has another record than the lives before.
 func writeSnapshot(t testing.TB, path, text string) {
 	t.Helper()
 	testkit.Write(t, path, text)
+	beginRecord(path)
 	folder := os.Getenv("KITCHENRUE_LIVES")
 	if folder == "" {
 		return

@@ -1,15 +1,51 @@
 package app
 
 import (
+	"fmt"
 	"os"
 	"path/filepath"
 	"strings"
+	"sync"
 	"testing"
 	"time"
 
 	"kitchenrue.example/agent/internal/testkit"
 	"kitchenrue.example/serf"
 )
+
+// records has the record of each snapshot over which a test has started an agent.
+var records = struct {
+	sync.Mutex
+	ofSnapshot map[string]string
+	begun      int
+}{ofSnapshot: map[string]string{}}
+
+// recordOf returns the record of an agent over a snapshot, or in memory if the path is empty. It is in the folder
+// KITCHENRUE_RECORDS, whose records tests/library/agent.py attests. Without this folder, there is no record.
+func recordOf(t testing.TB, snapshot string) string {
+	folder := os.Getenv("KITCHENRUE_RECORDS")
+	if folder == "" {
+		return ""
+	}
+	records.Lock()
+	defer records.Unlock()
+	path, ok := records.ofSnapshot[snapshot]
+	if !ok {
+		records.begun++
+		path = filepath.Join(folder, fmt.Sprintf("%s-%d.record", strings.ReplaceAll(t.Name(), "/", "_"), records.begun))
+	}
+	if snapshot != "" {
+		records.ofSnapshot[snapshot] = path
+	}
+	return path
+}
+
+// beginRecord makes the next life over a snapshot begin another record.
+func beginRecord(snapshot string) {
+	records.Lock()
+	defer records.Unlock()
+	delete(records.ofSnapshot, snapshot)
+}
 
 // TestRecords leaves the records of three nodes in the folder KITCHENRUE_RECORDS, for tests/library/agent.py: an event,
 // a query, an event while one node is away, its return, and another event.

@@ -1,7 +1,7 @@
 // This program runs a node for a cluster with Serf's own agents. It uses the package serf. It reads commands from
 // standard input, one on each line, and answers each with a line that begins with "ok" or "error".
 //
-//	node -name NAME -bind ADDRESS -snapshot FILE -log FILE [-tags K=V,..] [-keep] [-states DURATION]
+//	node -name NAME -bind ADDRESS -snapshot FILE -log FILE [-record FILE] [-tags K=V,..] [-keep] [-states DURATION]
 //
 //	join ADDRESS..    joins these addresses
 //	fire NAME TEXT    fires an event, and prints its Lamport time
@@ -13,7 +13,7 @@
 //	leave             leaves the cluster
 //
 // The program's log has a line for each event and each query that was handed out, in the format that `serf-replay
-// judge` reads. If KITCHENRUE_FAULTS names a file, that file decides what happens to packets (../../serf/faults.go).
+// judge` reads, and -record writes what its proved agent did. If KITCHENRUE_FAULTS names a file, that file decides what happens to packets (../../serf/faults.go).
 package main
 
 import (
@@ -30,7 +30,11 @@ import (
 	"time"
 
 	"kitchenrue.example/serf"
+	"kitchenrue.example/serf/record"
 )
+
+// recordLimit is the size in bytes at which a record is rotated. No test is that long.
+const recordLimit = 1 << 30
 
 // broadcastTimeout is how long a command waits until its message is sent, and queryTimeout how long a query is open.
 const (
@@ -170,6 +174,15 @@ func (n *node) run(line string) (string, error) {
 	return "", fmt.Errorf("no such command: %q", line)
 }
 
+// recorder returns the hook by which a node records its agent.
+func recorder(name, path string) func(serf.Agent, serf.Opening) (serf.Agent, error) {
+	file, err := record.Open(path, recordLimit)
+	check(err)
+	return func(agent serf.Agent, opening serf.Opening) (serf.Agent, error) {
+		return record.Start(agent, file, name, opening, log.Default())
+	}
+}
+
 // start starts the node that the flags describe.
 func start() *node {
 	config := serf.DefaultConfig()
@@ -180,6 +193,7 @@ func start() *node {
 	flag.BoolVar(&config.KeepEvents, "keep", false, "keep events in the snapshot")
 	flag.DurationVar(&list.PushPullInterval, "states", list.PushPullInterval, "how often it exchanges its state with another node")
 	handled, tags := flag.String("log", "", "the log of events and queries"), flag.String("tags", "", "its tags, as K=V,..")
+	recordPath := flag.String("record", "", "the record of its agent")
 	flag.Parse()
 	log.SetPrefix(config.NodeName + " ")
 	file, err := os.OpenFile(*handled, os.O_CREATE|os.O_APPEND|os.O_WRONLY, 0o600)
@@ -187,6 +201,9 @@ func start() *node {
 	events := make(chan serf.Event)
 	config.EventCh, config.Tags, config.BroadcastTimeout = events, tagsOf(*tags), broadcastTimeout
 	config.Logger, config.LogOutput = log.Default(), nil
+	if *recordPath != "" {
+		config.Wrap = recorder(config.NodeName, *recordPath)
+	}
 	n := &node{name: config.NodeName, handled: file}
 	go n.handle(events)
 	n.Serf, err = serf.Create(config)

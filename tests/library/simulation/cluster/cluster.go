@@ -51,6 +51,8 @@ type cluster struct {
 	network *network
 	ledger  *ledger
 	nodes   []*node
+	// isRecording is true if each node records its agent.
+	isRecording bool
 	// isHealed is true when the failures are over. isFinal is true when the final events and queries are fired.
 	isHealed, isFinal atomic.Bool
 	// joinedIgnoring is the moment when a node last joined others and ignored old events, in nanoseconds since 1970.

@@ -2,7 +2,7 @@
 // failures that a seed determines. It writes what it found to a file: a line `violation ..` for each broken promise, and a last line with
 // counts. Its exit status is 1 if a promise was broken.
 //
-//	cluster -seed N -out FILE [-log FILE] [-length D] [-nodes N] [-first N] [-without N,N,..] [-planted NAME] [-stop] [-steps]
+//	cluster -seed N -out FILE [-log FILE] [-record FOLDER] [-length D] [-nodes N] [-first N] [-without N,N,..] [-planted NAME] [-stop] [-steps]
 //
 // tests/library/simulation.py builds this program, and explains its flags.
 package main
@@ -53,6 +53,7 @@ func main() {
 	seed := flag.Int64("seed", 1, "the `number` from which the run follows")
 	out := flag.String("out", os.DevNull, "the `file` for what was found")
 	logFile := flag.String("log", "", "the `file` for the full log")
+	recordFolder := flag.String("record", "", "the `folder` for the records, logs and snapshots of the nodes")
 	length := flag.Duration("length", 8*time.Minute, "for how long there are failures")
 	nodes := flag.Int("nodes", 0, "the `number` of nodes; 0 is the one that the seed draws")
 	first := flag.Int("first", 0, "run the first `number` of nodes only, and their steps")
@@ -78,13 +79,13 @@ func main() {
 		}
 		return
 	}
-	if run(p, *seed, *logFile, file, *stops) > 0 {
+	if run(p, *seed, *logFile, *recordFolder, file, *stops) > 0 {
 		os.Exit(1)
 	}
 }
 
 // run runs a plan, and returns the number of broken promises. If stops is set, it exits at the first one.
-func run(p plan, seed int64, logFile string, out io.Writer, stops bool) int {
+func run(p plan, seed int64, logFile, recordFolder string, out io.Writer, stops bool) int {
 	// (cluster.sample collects garbage)
 	debug.SetGCPercent(-1)
 	rand.Seed(seed)
@@ -102,6 +103,7 @@ func run(p plan, seed int64, logFile string, out io.Writer, stops bool) int {
 	log.SetOutput(io.Discard)
 	j.add("plan %+v", p.settings)
 	c := newCluster(p, seed, j)
+	c.isRecording = recordFolder != ""
 	if stops {
 		c.ledger.onViolation = func() {
 			fmt.Fprintf(out, "violation %s\n", c.ledger.violations[0])
@@ -114,6 +116,11 @@ func run(p plan, seed int64, logFile string, out io.Writer, stops bool) int {
 		fmt.Fprintf(out, "violation %s\n", violation)
 	}
 	c.writeCounts(out, seed)
+	if c.isRecording {
+		if err := c.writeEvidence(recordFolder); err != nil {
+			log.Fatal(err)
+		}
+	}
 	return len(c.ledger.violations)
 }
 

@@ -49,6 +49,8 @@ type node struct {
 	maxFlush   time.Duration
 	// hadBadDisk is true if the disk was full or failing at any time since the present life began.
 	hadBadDisk bool
+
+	evidence evidence
 }
 
 // life is a life of a node, from Create to its end.
@@ -118,6 +120,9 @@ func (n *node) config(l *life) *serf.Config {
 	config.LogOutput = n.cluster.journal.writerFor(fmt.Sprintf("n%d.%d", n.number, l.number))
 	config.EventBuffer, config.QueryBuffer = settings.eventBuffer, settings.eventBuffer
 	config.KeepEvents = settings.keepsEvents
+	if n.cluster.isRecording {
+		config.Wrap = l.wrap
+	}
 	if settings.coalescePeriod > 0 {
 		config.UserCoalescePeriod, config.UserQuiescentPeriod = settings.coalescePeriod, settings.coalescePeriod/2
 		config.CoalescePeriod, config.QuiescentPeriod = settings.coalescePeriod, settings.coalescePeriod/2
@@ -310,6 +315,7 @@ func (l *life) handleEvent(e serf.Event) {
 	switch e := e.(type) {
 	case serf.UserEvent:
 		delivered := delivery{false, e.LTime, e.Name, string(e.Payload)}
+		l.logEvent(e)
 		ledger.recordDelivery(l.node.number, l.number, delivered)
 		l.checkFlushed(delivered)
 	case *serf.Query:
