@@ -82,6 +82,7 @@ def check_lost_line(count, folder, nodes):
 def check_doubled_run(count, folder, log_ending, nodes):
     """A node whose log has a run of a handler twice is refused."""
     node = next(node for node in nodes if b"event " in checks.read(folder, node + log_ending))
-    with changed_lines(os.path.join(folder, node + log_ending), lambda lines: lines + [line for line in lines if b"event " in line][:1]) as changed:
+    with_doubled = lambda lines: lines + [line for line in lines if b"event " in line][:1]
+    with changed_lines(os.path.join(folder, node + log_ending), with_doubled) as changed:
         status, output = attest(folder, None, [node], logs={node: changed.name})
     count.check("a handler that ran twice is refused", status == 1 and f": a handler of {node} ran again for the event" in output, output)

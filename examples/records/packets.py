@@ -134,5 +134,8 @@ def without_tag_filters(query):
 def raw_text(data):
     """The shortest spelling of a text."""
     length = len(data)
-    header = bytes([0xA0 | length]) if length < 32 else b"\xda" + length.to_bytes(2, "big") if length < 1 << 16 else b"\xdb" + length.to_bytes(4, "big")
-    return header + data
+    if length < 32:
+        return bytes([0xA0 | length]) + data
+    if length < 1 << 16:
+        return b"\xda" + length.to_bytes(2, "big") + data
+    return b"\xdb" + length.to_bytes(4, "big") + data

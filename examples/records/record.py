@@ -56,7 +56,8 @@ class Call:
         try:
             words, replaced = self.without_filters_in_words()
         except ValueError as error:
-            raise RecordError(f"{self.path}:{self.line}: this is no call of a query with tag filters: `{' '.join(self.words)[:200]}`") from error
+            words = " ".join(self.words)[:200]
+            raise RecordError(f"{self.path}:{self.line}: this is no call of a query with tag filters: `{words}`") from error
         reply = [[line[0], replaced.get(line[1], line[1])] if line[0] == "sent" else line for line in self.reply]
         return Call(self.moment, words, reply, self.path, self.line)
 
@@ -92,7 +93,8 @@ def entries_of(path):
     with open(path, encoding="ascii", errors="replace") as file:
         for number, line in enumerate(file, 1):
             if ended:
-                # (an empty line is before each life but the first. If there is no other one, the kill cut this call off at the end of a line)
+                # (an empty line is before each life but the first. If there is no other one, the kill cut this call off at the end of
+                # a line)
                 ended.reply = [] if line.startswith(TITLE) else ended.reply
                 yield ended
                 ended = None

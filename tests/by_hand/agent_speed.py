@@ -164,7 +164,8 @@ def main():
 
     def agent(kind, number):
         found = Agent(folder, kinds[kind], f"{kind.split()[0]}{number}", number, net="127.0.9")
-        found.words = ["-snapshot", found.snapshot] + (["-record", found.record] if kind.endswith(RECORDING) else []) + KEEPING.get(kind, [])
+        recording = ["-record", found.record] if kind.endswith(RECORDING) else []
+        found.words = ["-snapshot", found.snapshot, *recording, *KEEPING.get(kind, [])]
         return found
 
     speeds, costs, times = ({kind: [] for kind in kinds} for _ in range(3))

@@ -10,12 +10,13 @@ while they start. Each starts again on its snapshot. The run ends after so many 
 rests, until no handler of ours has run for --rest seconds (agents exchange their states every 30 seconds) and no event of theirs is
 open.
 
-On each node of ours, each event that a `serf event` confirmed and that reached the node has to be exactly one of these: its handler ran once
-to its end; it began, was cut off, and a start reported that; or it still waits. No handler may begin twice, and no event may be without a
-word. An event has reached a node if its handler began there, or if the node's file had its line at a kill or at the end. What a node of ours
-confirmed has to reach all nodes of ours, since a node keeps what it fired. What a stock agent confirmed and never sent is counted, and so is
-what became of events on the stock agents, as a measure. Our agents record, and their records have to be attested, with their files
-(`tests/attestation.py`). It needs Go and memberlist, or --agent, Debian's `serf`, and the built program for the records.
+On each node of ours, each event that a `serf event` confirmed and that reached the node has to be exactly one of these: its handler ran
+once to its end; it began, was cut off, and a start reported that; or it still waits. No handler may begin twice, and no event may be
+without a word. An event has reached a node if its handler began there, or if the node's file had its line at a kill or at the end. What
+a node of ours confirmed has to reach all nodes of ours, since a node keeps what it fired. What a stock agent confirmed and never sent
+is counted, and so is what became of events on the stock agents, as a measure. Our agents record, and their records have to be attested,
+with their files (`tests/attestation.py`). It needs Go and memberlist, or --agent, Debian's `serf`, and the built program for the
+records.
 """
 
 import argparse

@@ -4,9 +4,10 @@ handler ran again.
     tests/library/attested.py [--library FILE] [--over-ci] [--ours N] [--stock N] [--kills N] [--seed N] [--keep]
 
 Processes of `kitchenrue-agent`, every second one with `-keep-events`, and stock agents run next to each other. Events and queries are
-fired at random nodes, and random nodes of ours are killed by SIGKILL and started again. Then the records, the snapshots and the handlers' logs
-of our nodes have to be attested. A snapshot without a flushed line, and a log with a handler's line twice, have to be refused. Afterwards, the
-newest flushed line is taken out of the snapshot of a node, which is then started again: attest.py has to refuse that life.
+fired at random nodes, and random nodes of ours are killed by SIGKILL and started again. Then the records, the snapshots and the
+handlers' logs of our nodes have to be attested. A snapshot without a flushed line, and a log with a handler's line twice, have to be
+refused. Afterwards, the newest flushed line is taken out of the snapshot of a node, which is then started again: attest.py has to
+refuse that life.
 
 Go and the sources of memberlist and of Serf have to be installed (`tools/packages`); otherwise the script prints what is missing, and
 checks nothing. Without Debian's `serf` nothing is fired, so it is needed too. --library names another static library than that of
@@ -156,7 +157,8 @@ def check_life_without_line(count, cluster, folder, keeps, kind):
     until(lambda: lives(node) > before)
     node.end()
     status, output = attestation.attest(folder, nodes=[node.name])
-    count.check(f"a life without {lines[last]!r}", status == 1 and f"the snapshot of {node.name} lost what was flushed before the life" in output and node.record in output, output)
+    named = f"the snapshot of {node.name} lost what was flushed before the life"
+    count.check(f"a life without {lines[last]!r}", status == 1 and named in output and node.record in output, output)
 
 
 def arguments():

@@ -106,7 +106,9 @@ class Ours:
 
     def __init__(self, folder, program, number, net):
         self.name, self.addr, self.process = f"ours{number}", f"{net}.{number}", None
-        self.snapshot, self.events, self.log, self.faults = (os.path.join(folder, self.name + end) for end in (".snapshot", LOGS, ".log", ".faults"))
+        self.snapshot, self.events, self.log, self.faults = (
+            os.path.join(folder, self.name + end) for end in (".snapshot", LOGS, ".log", ".faults")
+        )
         self.words = [program, "-name", self.name, "-bind", self.addr, "-snapshot", self.snapshot, "-log", self.events]
         self.words += ["-record", os.path.join(folder, f"{self.name}.record")]
         self.tags, self.others = {"kind": "ours", "node": self.name}, []

@@ -168,7 +168,9 @@ def filters_of_tags(count):
         paths = day.write(folder)
         status, output = run_script(*paths, "--whole")
         count.check("a filter of tags", status == 0, output)
-        count.check("two nodes were handed the query, and one wasn't", [node.record.count(f"handed {node.handed - 1} ") for node in day.nodes][:2] == [1, 1] and third.record.endswith(f"sent {query}\n\n"), third.record[-400:])
+        handed = [node.record.count(f"handed {node.handed - 1} ") for node in (first, second)]
+        held_back = third.record.endswith(f"sent {query}\n\n")
+        count.check("two nodes were handed the query, and one wasn't", handed == [1, 1] and held_back, third.record[-400:])
         for what, number, old, new, says in (
             ("its note is missing", 1, "# tags pass\n", "", "b replied to `deliver"),
             ("another packet is sent on", 1, f"sent {query}", f"sent {bare}", "b replied to `deliver"),
@@ -202,7 +204,8 @@ def kills_within_a_call(count):
                 file.write(text[: before + cut] + text[before + len(call) :])
             found = attest.Node(path)
             found.check(program)
-            count.check(f"a call that was cut off at {cut}", len(found.lives[-2].calls) == len(attest.Node(day.write(folder)[0]).lives[-2].calls) - (cut < len(call)), call)
+            whole = attest.Node(day.write(folder)[0]).lives[-2].calls
+            count.check(f"a call that was cut off at {cut}", len(found.lives[-2].calls) == len(whole) - (cut < len(call)), call)
 
 
 def wrong_agents(count):
@@ -309,4 +312,5 @@ def changed_records(count):
 
 
 if __name__ == "__main__":
-    sys.exit(checks.over_program(whole_days, lost_lines, handlers, packets_from_outside, filters_of_tags, kills_within_a_call, wrong_agents, no_records, compactions, pages_run, changed_records))
+    parts = [whole_days, lost_lines, handlers, packets_from_outside, filters_of_tags, kills_within_a_call, wrong_agents]
+    sys.exit(checks.over_program(*parts, no_records, compactions, pages_run, changed_records))

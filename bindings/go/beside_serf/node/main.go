@@ -13,7 +13,8 @@
 //	leave             leaves the cluster
 //
 // The program's log has a line for each event and each query that was handed out, in the format that `serf-replay
-// judge` reads, and -record writes what its proved agent did. If KITCHENRUE_FAULTS names a file, that file decides what happens to packets (../../serf/faults.go).
+// judge` reads, and -record writes what its proved agent did. If KITCHENRUE_FAULTS names a file, that file decides what
+// happens to packets (../../serf/faults.go).
 package main
 
 import (

@@ -41,7 +41,8 @@ func TestRecordedTagFilters(t *testing.T) {
 		filters [][]byte
 		note    string
 	}{
-		{true, [][]byte{byTag, byNames}, "# tags pass\n"}, {false, [][]byte{byTag, byNames}, ""}, {true, [][]byte{byNames}, ""}, {true, nil, ""},
+		{true, [][]byte{byTag, byNames}, "# tags pass\n"}, {false, [][]byte{byTag, byNames}, ""},
+		{true, [][]byte{byNames}, ""}, {true, nil, ""},
 	} {
 		params := serfagent.QueryParams{Timeout: 1000, Filters: test.filters, TagsPass: test.passes}
 		query, err := a.Query(5, 7, "load", nil, params)

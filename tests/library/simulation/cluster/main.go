@@ -2,7 +2,8 @@
 // failures that a seed determines. It writes what it found to a file: a line `violation ..` for each broken promise, and a last line with
 // counts. Its exit status is 1 if a promise was broken.
 //
-//	cluster -seed N -out FILE [-log FILE] [-record FOLDER] [-length D] [-nodes N] [-first N] [-without N,N,..] [-planted NAME] [-stop] [-steps]
+//	cluster -seed N -out FILE [-log FILE] [-record FOLDER] [-length D] [-nodes N] [-first N] [-without N,N,..]
+//	        [-planted NAME] [-stop] [-steps]
 //
 // tests/library/simulation.py builds this program, and explains its flags.
 package main
