@@ -87,31 +87,33 @@ def parts_of(path):
     return title, rest, calls, types
 
 
+# The first lines of the page.
+BEGINNING = [
+    '.\\" Made from include/serf_agent.h by tools/manual_of_header.py.',
+    '.TH SERF_AGENT 3 "" "Kitchenrue"',
+    ".SH NAME",
+    "serf_agent \\- one proved Serf agent in C",
+    ".SH SYNOPSIS",
+    ".nf",
+    ".B #include <serf_agent.h>",
+    ".B #include <serf_agent_store.h>",
+    ".B #include <serf_agent_text.h>",
+    ".PP",
+    ".B cc host.c $(pkg\\-config \\-\\-cflags \\-\\-libs serf_agent)",
+    ".fi",
+]
+
+
 def manual_page():
     """The text of the manual page."""
     title, rest, calls, types = parts_of(HEADER)
     file_title, file_rest, file_calls, file_types = parts_of(STORE)
     text_title, text_rest, text_calls, _ = parts_of(TEXT)
     lines = [
-        '.\\" Made from include/serf_agent.h by tools/manual_of_header.py.',
-        '.TH SERF_AGENT 3 "" "Kitchenrue"',
-        ".SH NAME",
-        "serf_agent \\- one proved Serf agent in C",
-        ".SH SYNOPSIS",
-        ".nf",
-    ]
-    lines += [
-        ".B #include <serf_agent.h>",
-        ".B #include <serf_agent_store.h>",
-        ".B #include <serf_agent_text.h>",
-        ".PP",
-        ".B cc host.c $(pkg\\-config \\-\\-cflags \\-\\-libs serf_agent)",
-        ".fi",
+        *BEGINNING,
         ".SH DESCRIPTION",
         escape_groff(title),
         *paragraphs(rest),
-    ]
-    lines += [
         ".SH CALLS",
         "Each call returns a value of",
         ".IR \"enum serf_agent_code\" .",

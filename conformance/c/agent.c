@@ -32,7 +32,7 @@ static void settle(void) {
     struct serf_agent_bytes about;
     if (serf_agent_pending(&agent, &about, NULL, 0) == SERF_AGENT_OK) {
         size_t old = about.replaces ? 0 : text.len;
-        text.at = realloc(text.at, old + about.len + 1);
+        text.at = grown(text.at, old + about.len + 1);
         serf_agent_pending(&agent, &about, text.at + old, about.len);
         text.len = old + about.len;
         serf_agent_flushed(&agent);
@@ -123,7 +123,7 @@ static void make(void) {
 
 /* Remembers the packet of a query that was handed out. */
 static void remember(struct bytes packet, uint64_t now) {
-    pending_queries = realloc(pending_queries, (pending_count + 1) * sizeof *pending_queries);
+    pending_queries = grown(pending_queries, (pending_count + 1) * sizeof *pending_queries);
     pending_queries[pending_count] = (struct pending_query){.now = now, .waits = true};
     append(&pending_queries[pending_count++].packet, packet);
 }

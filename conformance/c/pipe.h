@@ -42,8 +42,18 @@ static struct bytes bytes_of(char *word) {
     return (struct bytes){(uint8_t *)word, len};
 }
 
+/* Does what realloc does, and ends the program if memory runs out. */
+static void *grown(void *at, size_t size) {
+    void *moved = realloc(at, size);
+    if (moved == NULL) {
+        perror("realloc");
+        exit(1);
+    }
+    return moved;
+}
+
 static void append(struct bytes *to, struct bytes more) {
-    to->at = realloc(to->at, to->len + more.len + 1);
+    to->at = grown(to->at, to->len + more.len + 1);
     memcpy(to->at + to->len, more.at, more.len);
     to->len += more.len;
 }
