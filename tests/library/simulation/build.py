@@ -29,7 +29,7 @@ OTHER = {
     "serf/join.go": [
         (
             "\tpacket, err := intent.Packet()\n",
-            "\tplanted.RecordIntent(s.config.NodeName, string(intent.Node), intent.Time, intent.Leave)\n\tpacket, err := intent.Packet()\n",
+            "\tplanted.RecordIntent(s.config.NodeName, intent.Node, intent.Time, intent.Leave)\n\tpacket, err := intent.Packet()\n",
         )
     ],
     "serfagent/filler.go": [("const fillerBytes = 64 << 10", "const fillerBytes = 1 << 10")],

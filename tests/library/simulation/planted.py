@@ -148,7 +148,7 @@ FAULTS = {
             "serf/answer.go": [
                 (
                     "\tif factor == 0 || s.members.size()",
-                    '\tif planted.IsOn("relay-all") {\n\t\treturn s.members.pickOthers(s.members.size(), source)\n\t}\n'
+                    '\tif planted.IsOn("relay-all") {\n\t\treturn s.members.pickOthers(s.members.size(), query.Source)\n\t}\n'
                     "\tif factor == 0 || s.members.size()",
                 )
             ]
