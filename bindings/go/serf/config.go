@@ -192,9 +192,10 @@ type Config struct {
 	// field.
 	Wrap func(agent Agent, opening Opening) (Agent, error)
 
-	// snapshotCheckInterval is how often the file is checked, and timeOfDay returns the time of day; tests replace both.
-	snapshotCheckInterval time.Duration
-	timeOfDay             func() time.Time
+	// snapshotCheckInterval is how often the file is checked, endGrace is how long events can be received after Shutdown,
+	// and timeOfDay returns the time of day. Tests replace all three.
+	snapshotCheckInterval, endGrace time.Duration
+	timeOfDay                       func() time.Time
 }
 
 // Init makes the map of Tags if it is nil.
@@ -256,6 +257,9 @@ func (c *Config) withDefaults() (*Config, error) {
 	}
 	if copied.snapshotCheckInterval == 0 {
 		copied.snapshotCheckInterval = snapshotCheckInterval
+	}
+	if copied.endGrace == 0 {
+		copied.endGrace = endGrace
 	}
 	if copied.timeOfDay == nil {
 		copied.timeOfDay = time.Now

@@ -103,7 +103,8 @@ func TestFailingIntentsDoNotDelayEvents(t *testing.T) {
 // Events that were handed out are delivered during Shutdown, before ShutdownCh is closed. After that nothing is accepted or fired.
 func TestShutdown(t *testing.T) {
 	f, logs := &fakeAgent{}, &logBuffer{}
-	a := startNode(t, "a", "", withAgent(f), withLog(logs))
+	// (the reader gets the processor late if the machine is busy)
+	a := startNode(t, "a", "", withAgent(f), withLog(logs), func(o *nodeOptions) { o.endGrace = patience })
 	var want []string
 	for i := 0; i < 10; i++ {
 		want = append(want, fmt.Sprint(i))
@@ -184,8 +185,8 @@ func TestShutdownWithoutReader(t *testing.T) {
 	if at := strings.Index(text, " events were handed out but never received"); at > 0 {
 		fmt.Sscan(text[strings.LastIndex(text[:at], " "):], &count)
 	}
-	// (the reader may have received one or two events before, such as the node's own join)
-	if count < 9 || count > 11 {
+	// (the reader may have received the node's own join before)
+	if count < 10 || count > 11 {
 		t.Error(text)
 	}
 }

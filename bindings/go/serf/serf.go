@@ -265,7 +265,7 @@ func (s *Serf) open() (err error) {
 func (s *Serf) startGoroutines() {
 	go func() {
 		if s.config.EventCh != nil {
-			s.undelivered <- s.pipe.deliver(s.config.EventCh, s.ctx.Done(), endGrace)
+			s.undelivered <- s.pipe.deliver(s.config.EventCh, s.ctx.Done(), s.config.endGrace)
 		} else {
 			s.undelivered <- 0
 		}
