@@ -91,12 +91,18 @@ func TestBroadcastsOfEachKindHaveRoom(t *testing.T) {
 func TestQueuesAreLimited(t *testing.T) {
 	f := &fakeAgent{flushGate: make(chan struct{})}
 	a := startNode(t, "a", "", withAgent(f))
+	// (during a flush, the node takes nothing out of its queues)
+	a.delegate().NotifyMsg([]byte{3, 0})
+	eventually(t, "the agent flushes", f.isBusy)
 	for i := 0; i < 3*Waiting; i++ {
 		a.delegate().NotifyMsg([]byte{3, byte(i)})
 		a.delegate().MergeRemoteState(make([]byte, 1<<16), false)
 	}
-	if len(a.packets.messages) > Waiting || a.states.bytes > maxQueuedBytes || a.dropped.Load() < 2*Waiting-1 {
-		t.Error(len(a.packets.messages), a.states.bytes, a.dropped.Load())
+	a.states.mu.Lock()
+	stateBytes := a.states.bytes
+	a.states.mu.Unlock()
+	if packets := a.waitingPackets(); packets > Waiting || stateBytes > maxQueuedBytes || a.dropped.Load() < 2*Waiting {
+		t.Error(packets, stateBytes, a.dropped.Load())
 	}
 	close(f.flushGate)
 	for i := 0; i < 2*Waiting; i++ {
@@ -259,7 +265,11 @@ func TestSlowReader(t *testing.T) {
 			time.Sleep(time.Millisecond)
 		}
 	}
-	eventually(t, "the pipe is full", func() bool { return a.pipe.length() >= Waiting })
+	eventually(t, "the pipe is full", func() bool {
+		// (on a busy machine, the node may have received no more of these packets than its queue has room for)
+		a.delegate().NotifyMsg([]byte{3, 0xff, 0xff})
+		return a.pipe.length() >= Waiting
+	})
 	if err := a.UserEvent("x", nil, false); err != ErrBusy {
 		t.Error(err)
 	}
@@ -276,7 +286,7 @@ func TestSlowReader(t *testing.T) {
 	eventually(t, "all is delivered", func() bool {
 		f.mu.Lock()
 		defer f.mu.Unlock()
-		return len(a.packets.ready) == 0 && a.pipe.length() == 0 && uint64(len(a.payloads("fake"))) == f.time
+		return a.waitingPackets() == 0 && a.pipe.length() == 0 && uint64(len(a.payloads("fake"))) == f.time
 	})
 	for i, payload := range a.payloads("fake")[:Waiting] {
 		if payload != string([]byte{byte(i >> 8), byte(i)}) {
@@ -357,7 +367,9 @@ func TestFiredEventsAreQueuedForGossip(t *testing.T) {
 // outstandingWait waits for the callers of the last flush if they usually fire again before another flush would end. If
 // others were waiting as well, all of them together are expected to take longer.
 func TestOutstandingWait(t *testing.T) {
-	const flush = time.Hour
+	// (outstandingWait sees the report as if it were ahead in time, so that the few milliseconds of its wait aren't over
+	// if another process gets the processor)
+	const flush, ahead = time.Hour, time.Minute
 	f, reported := newFiringQueue(), []*firing{{done: make(chan struct{}, 99)}, {done: make(chan struct{}, 99)}}
 	for _, test := range []struct {
 		sinceReport time.Duration
@@ -377,10 +389,11 @@ func TestOutstandingWait(t *testing.T) {
 			f.add(&firing{})
 		}
 		f.wakeCallers(reported, flush)
-		if left := f.outstandingWait(); left > maxOutstandingWait || (left > 0) != test.isAwaited {
-			t.Errorf("%+v: it waits %v, and the estimate is %v", test, left, f.returnTime)
+		f.wokenAt = f.wokenAt.Add(ahead)
+		if left := f.outstandingWait(); left > maxOutstandingWait+ahead || (left > 0) != test.isAwaited {
+			t.Errorf("%+v: it waits %v, and the estimate is %v", test, left-ahead, f.returnTime)
 		}
-		f.wokenAt = f.wokenAt.Add(-test.sinceReport)
+		f.wokenAt = f.wokenAt.Add(-ahead - test.sinceReport)
 		for i := range reported {
 			if len(f.noneOutstanding) != 0 {
 				t.Error("a caller is still outstanding", i)

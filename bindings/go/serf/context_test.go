@@ -76,17 +76,18 @@ func TestFireContextDuringFlush(t *testing.T) {
 // If there is no room for a firing, FireContext returns when its context ends.
 func TestFireContextWithoutRoom(t *testing.T) {
 	a := startNode(t, "a", "", withAgent(&fakeAgent{}))
-	a.pauseReading(true)
-	var err error
-	for n := 0; n < 2*Waiting && err == nil; n++ {
-		soon, cancel := context.WithTimeout(context.Background(), 5*time.Second)
-		_, err = a.FireContext(soon, "x", nil, false)
-		cancel()
-	}
-	if err != context.DeadlineExceeded || !a.pipe.isFull.Load() {
-		t.Error(err, a.pipe.length())
+	a.fillPipe()
+	soon, cancel := context.WithTimeout(context.Background(), 200*time.Millisecond)
+	defer cancel()
+	if _, err := a.FireContext(soon, "x", nil, false); err != context.DeadlineExceeded || a.waitingFirings() != 0 {
+		t.Error(err, a.waitingFirings())
 	}
 	a.pauseReading(false)
+	check(t, a.UserEvent("y", nil, false))
+	eventually(t, "a later event is delivered", func() bool { return len(a.payloads("y")) == 1 })
+	if count := len(a.payloads("x")); count != 0 {
+		t.Error("an event was fired although its context had ended")
+	}
 }
 
 // If the context does not end, JoinContext behaves like Join and tries all addresses.

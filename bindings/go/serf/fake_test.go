@@ -37,24 +37,22 @@ type testNode struct {
 
 	mu       sync.Mutex
 	received []Event
-	// isPaused: nobody receives events from the node's channel.
-	isPaused bool
+	// pause has no room for a value, so a test that sends one knows that readEvents has it. After true, nobody receives
+	// events from the node's channel until false follows.
+	pause chan bool
 	// onEvent, if it isn't nil, is called with each event, which is then not added to received.
 	onEvent func(Event)
 }
 
 // readEvents receives the events that the node delivers.
 func (n *testNode) readEvents(events <-chan Event) {
-	for {
-		n.mu.Lock()
-		isPaused := n.isPaused
-		n.mu.Unlock()
+	for isPaused := false; ; {
+		open := events
 		if isPaused {
-			time.Sleep(time.Millisecond)
-			continue
+			open = nil
 		}
 		select {
-		case e := <-events:
+		case e := <-open:
 			if n.onEvent != nil {
 				n.onEvent(e)
 				continue
@@ -62,17 +60,19 @@ func (n *testNode) readEvents(events <-chan Event) {
 			n.mu.Lock()
 			n.received = append(n.received, e)
 			n.mu.Unlock()
+		case isPaused = <-n.pause:
 		case <-n.ShutdownCh():
 			return
 		}
 	}
 }
 
-// pauseReading stops receiving events if isPaused is true, and otherwise resumes.
+// pauseReading stops receiving events if isPaused is true, and otherwise resumes. When it returns, that has happened.
 func (n *testNode) pauseReading(isPaused bool) {
-	n.mu.Lock()
-	defer n.mu.Unlock()
-	n.isPaused = isPaused
+	select {
+	case n.pause <- isPaused:
+	case <-n.ShutdownCh():
+	}
 }
 
 // payloads returns the payloads of the user events of a name.
@@ -97,6 +97,13 @@ func (n *testNode) lastQuery(name string) *Query {
 		}
 	}
 	return nil
+}
+
+// waitingPackets returns how many received packets wait for the agent.
+func (n *testNode) waitingPackets() int {
+	n.packets.mu.Lock()
+	defer n.packets.mu.Unlock()
+	return len(n.packets.messages)
 }
 
 // waitingFirings returns how many events wait to be fired.
@@ -151,14 +158,20 @@ func atPort(port uint16) option {
 	}
 }
 
-// loopbackConfig returns the configuration of a node on a loopback address, with fast gossip. (A busy machine may still
-// send late.)
+// loopbackConfig returns the configuration of a node on a loopback address, with fast gossip. On a busy machine nodes may
+// still send and answer late. So a join may take long, and only a node that doesn't answer for a minute has failed.
 func loopbackConfig(name string) Config {
 	c := *DefaultConfig()
 	c.NodeName, c.ProtocolVersion, c.BroadcastTimeout, c.LogOutput = name, ProtocolVersionMax, 20*time.Second, io.Discard
 	c.MemberlistConfig = memberlist.DefaultLocalConfig()
 	c.MemberlistConfig.BindAddr, c.MemberlistConfig.BindPort, c.MemberlistConfig.AdvertisePort = "127.0.0.1", 0, 0
+	c.MemberlistConfig.TCPTimeout, c.MemberlistConfig.SuspicionMult = patience/2, 60
 	return c
+}
+
+// withFailures makes a node notice within seconds that another one has failed.
+func withFailures(o *nodeOptions) {
+	o.MemberlistConfig.SuspicionMult = memberlist.DefaultLocalConfig().SuspicionMult
 }
 
 // startNode starts a node on a loopback address, with a snapshot if a folder is given.
@@ -171,7 +184,7 @@ func startNode(t *testing.T, name, folder string, opts ...option) *testNode {
 	for _, opt := range opts {
 		opt(&options)
 	}
-	n := &testNode{t: t, onEvent: options.onEvent}
+	n := &testNode{t: t, pause: make(chan bool), onEvent: options.onEvent}
 	events := make(chan Event)
 	options.EventCh = events
 	var err error
@@ -275,6 +288,8 @@ type fakeAgent struct {
 	bursts, firings []int
 	// flushGate, if it isn't nil, makes TakeAll block until the channel is closed, as if TakeAll waited for the disk.
 	flushGate chan struct{}
+	// isFlushing: TakeAll waits for flushGate.
+	isFlushing atomic.Bool
 	// memberTimeGate, if it isn't nil, makes NextMemberTime block until the channel is closed, as if it waited for the
 	// disk.
 	memberTimeGate chan struct{}
@@ -301,7 +316,9 @@ func (f *fakeAgent) TakeAll(_ uint64, packets []Packet, firings []Firing) (outco
 	f.mu.Lock()
 	defer f.mu.Unlock()
 	if f.flushGate != nil {
+		f.isFlushing.Store(true)
 		<-f.flushGate
+		f.isFlushing.Store(false)
 	}
 	if len(packets) > 0 {
 		f.bursts = append(f.bursts, len(packets))
@@ -333,14 +350,8 @@ func (f *fakeAgent) TakeAll(_ uint64, packets []Packet, firings []Firing) (outco
 
 func (f *fakeAgent) Merge([]byte, bool) ([]*serfagent.Event, error) { return nil, nil }
 
-// isBusy reports whether a call is using the agent.
-func (f *fakeAgent) isBusy() bool {
-	if f.mu.TryLock() {
-		f.mu.Unlock()
-		return false
-	}
-	return true
-}
+// isBusy reports whether TakeAll waits for flushGate.
+func (f *fakeAgent) isBusy() bool { return f.isFlushing.Load() }
 
 // LocalState returns a text with the agent's time.
 func (f *fakeAgent) LocalState([]serfagent.Status, []string) ([]byte, error) {

@@ -164,16 +164,20 @@ func TestFiringWithoutRoomIsRefused(t *testing.T) {
 	}
 }
 
-// fillPipe stops reading, and fills the pipe. The reader may have been about to take one more event, which makes room again.
+// fillPipe stops reading, and fills the pipe. When it returns, the pipe is offering its first event, and stays full.
 func (n *testNode) fillPipe() {
+	n.t.Helper()
 	n.pauseReading(true)
-	for full := 0; full < 10; full++ {
-		if !n.pipe.isFull.Load() {
-			n.pipe.add(UserEvent{Name: "filler"})
-			full = 0
-			continue
-		}
-		time.Sleep(20 * time.Millisecond)
+	n.pipe.add(UserEvent{Name: "filler"})
+	eventually(n.t, "the pipe offers an event", func() bool {
+		n.mu.Lock()
+		defer n.mu.Unlock()
+		n.pipe.mu.Lock()
+		defer n.pipe.mu.Unlock()
+		return n.pipe.removed == len(n.received)+1
+	})
+	for n.pipe.hasRoom() {
+		n.pipe.add(UserEvent{Name: "filler"})
 	}
 }
 

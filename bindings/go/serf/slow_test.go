@@ -17,8 +17,7 @@ func TestPingsWhileDiskIsSlow(t *testing.T) {
 	f := &fakeAgent{flushGate: make(chan struct{})}
 	a := startNode(t, "a", "", withAgent(f))
 	other := startNode(t, "b", "", withAgent(&fakeAgent{}), func(o *nodeOptions) {
-		o.MemberlistConfig.ProbeInterval = time.Hour
-		o.MemberlistConfig.ProbeTimeout, o.MemberlistConfig.TCPTimeout = 20*time.Second, 20*time.Second
+		o.MemberlistConfig.ProbeInterval, o.MemberlistConfig.ProbeTimeout = time.Hour, 20*time.Second
 	})
 	a.delegate().NotifyMsg([]byte("\x03\x80"))
 	eventually(t, "the agent flushes", f.isBusy)
@@ -79,8 +78,9 @@ func TestDroppedPackets(t *testing.T) {
 		a.delegate().NotifyMsg(append([]byte{3}, make([]byte, maxPacketLength-1+more)...))
 	}
 	eventually(t, "the shorter packet is processed", func() bool { return len(a.payloads("fake")) == Waiting+2 })
+	// (the shorter packet was processed, but is too long to be gossiped)
+	eventually(t, "both are counted", func() bool { return a.dropped.Load() >= 1236 })
 	if lost := a.dropped.Load(); lost != 1236 {
-		// (the shorter packet was processed, but is too long to be gossiped)
 		t.Error(lost)
 	}
 }
