@@ -86,6 +86,7 @@ func TestEventRuns(t *testing.T) {
 		}
 	}
 	want := "1 good: done deploy=0\n2 bad: done deploy=3 rerun:odd_name__=signal-9\n3 plain: done\n4 none: never began\n5 begun: begun deploy 4711\n6 waiting: waiting\n"
+	a.waitForLines()
 	sameRuns(t, "running", readFile(t, a.snapshot.path), want)
 	sameRuns(t, "compacted", a.compactNow(), want)
 	later := a.fireNew("later", nil)
@@ -101,9 +102,8 @@ func TestEventRuns(t *testing.T) {
 	sameRuns(t, "again", a.compactNow(), strings.Replace(want, "4711", "4711 again", 1)+"7 later: never began\n")
 	must(t, a.DoneWith(begun, []HandlerRun{{"deploy", RanCutOff}, {"rerun:deploy", "0"}}))
 	a.handle(waiting, HandlerRun{"deploy", RanTimedOut})
-	want = strings.NewReplacer(
-		"begun: begun deploy 4711", "begun: done deploy=cut-off rerun:deploy=0", "waiting: waiting", "waiting: done deploy=timed-out",
-	).Replace(want) + "7 later: never began\n"
+	want = strings.NewReplacer("begun: begun deploy 4711", "begun: done deploy=cut-off rerun:deploy=0", "waiting: waiting", "waiting: done deploy=timed-out").Replace(want) + "7 later: never began\n"
+	a.waitForLines()
 	sameRuns(t, "the second life", a.kill(), want)
 	a = startNode(t, "a", folder, withTracking)
 	sameRuns(t, "the third life", a.compactNow(), want)
@@ -386,16 +386,16 @@ func TestSkippedEventsShareALine(t *testing.T) {
 		}
 		// (agentMu is held so that no other goroutine appends the lines)
 		a.agentMu.Lock()
-		must(t, a.appendWaitingLines())
+		check(t, a.appendWaitingLines())
 		before := readText(t, a.snapshot.path)
 		for _, e := range events[:4] {
 			if int(e.LTime) != open {
-				must(t, a.Done(e))
+				check(t, a.Done(e))
 			}
 		}
-		must(t, a.appendWaitingLines())
-		a.agentMu.Unlock()
+		check(t, a.appendWaitingLines())
 		text := readText(t, a.snapshot.path)
+		a.agentMu.Unlock()
 		if found := strings.TrimPrefix(text, before); found != want {
 			t.Errorf("%d is open: %q, and not %q", open, found, want)
 		}

@@ -7,6 +7,7 @@ import (
 	"path/filepath"
 	"strings"
 	"testing"
+	"time"
 
 	"kitchenrue.example/serfagent"
 )
@@ -37,6 +38,19 @@ func (n *testNode) fireNew(name string, payload []byte) UserEvent {
 	time, err := n.Fire(name, payload, false)
 	must(n.t, err)
 	return UserEvent{LTime: time, Name: name, Payload: payload}
+}
+
+// waitForLines waits until the file has all lines about handlers. (While another goroutine uses the agent, Done leaves its
+// lines to appendDeferredLines.)
+func (n *testNode) waitForLines() {
+	n.t.Helper()
+	eventually(n.t, "the lines about handlers are in the file", func() bool {
+		n.agentMu.Lock()
+		defer n.agentMu.Unlock()
+		n.openEvents.mu.Lock()
+		defer n.openEvents.mu.Unlock()
+		return len(n.openEvents.lines) == 0 && len(n.openEvents.skipped) == 0
+	})
 }
 
 // kill ends a node as SIGKILL would: nothing more is written to the file. It returns the file's text.
@@ -101,6 +115,7 @@ func TestUnfinishedEvents(t *testing.T) {
 	for _, e := range a.Unfinished() {
 		must(t, a.Done(e.UserEvent))
 	}
+	a.waitForLines()
 	a.kill()
 	a = startNode(t, "a", folder, withTracking)
 	if found := a.unfinished(); found != "" {
@@ -167,6 +182,7 @@ func TestOpenEventsOverCompactions(t *testing.T) {
 			if i%100 == 99 {
 				must(t, a.useAgent(a.writeMemberLines))
 			}
+			a.waitForLines()
 			now := textSize(t, a.snapshot.path)
 			if now < size {
 				compactions++
@@ -224,12 +240,17 @@ func TestCutOffLines(t *testing.T) {
 	first, second := a.fireNew("first", nil), a.fireNew("second", []byte("v2"))
 	must(t, a.Begin(first))
 	must(t, a.Begin(second))
+	// (agentMu is held so that no other goroutine appends lines)
+	a.agentMu.Lock()
 	flushed := textSize(t, a.snapshot.path)
-	must(t, a.Done(second))
+	check(t, a.Done(second))
+	check(t, a.appendWaitingLines())
 	afterSecond := textSize(t, a.snapshot.path)
-	must(t, a.Done(first))
-	a.kill()
+	check(t, a.Done(first))
+	check(t, a.appendWaitingLines())
 	text := readText(t, a.snapshot.path)
+	a.agentMu.Unlock()
+	check(t, a.Shutdown())
 	// (the `#ran` line follows the `#done` line)
 	afterFirst := len(text) - len(ranLine(keyOf(first), nil))
 	afterSecond -= int64(len(ranLine(keyOf(second), nil)))
@@ -294,8 +315,10 @@ func (fullLines) AppendLines([]byte) error { return serfagent.ErrFull }
 // If the `#begun` line can't be written or flushed, Begin returns an error and the node ends.
 func TestBeginOnAFailedDisk(t *testing.T) {
 	for _, what := range []string{"write", "flush"} {
-		a := startNode(t, "a", t.TempDir(), withTracking)
+		a := startNode(t, "a", t.TempDir(), withTracking, func(o *nodeOptions) { o.snapshotCheckInterval = time.Hour })
 		e := a.fireNew("deploy", nil)
+		// (after this line, no other goroutine uses the file)
+		eventually(t, "the node's own line is written", func() bool { return strings.Contains(readFile(t, a.snapshot.path), "alive: a ") })
 		reader, writer, err := os.Pipe()
 		must(t, err)
 		defer reader.Close()
