@@ -86,7 +86,7 @@ func TestTooLargeExpressionsAreRefused(t *testing.T) {
 	} {
 		began := time.Now()
 		filter := serfagent.FilterByTag("role", expression)
-		if tagFiltersPass([][]byte{filter}, tags) != want || time.Since(began) > 5*time.Second {
+		if tagFiltersPass([][]byte{filter}, tags) != want || time.Since(began) > time.Minute {
 			t.Errorf("%.30s: %v", expression, time.Since(began))
 		}
 	}

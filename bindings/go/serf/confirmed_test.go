@@ -2,8 +2,6 @@ package serf
 
 import (
 	"errors"
-	"io"
-	"log"
 	"net"
 	"sync"
 	"sync/atomic"
@@ -25,10 +23,7 @@ type cutTransport struct {
 // newCutTransport returns a transport on loopback that isn't cut off yet.
 func newCutTransport(t *testing.T) *cutTransport {
 	t.Helper()
-	inner, err := memberlist.NewNetTransport(
-		&memberlist.NetTransportConfig{BindAddrs: []string{"127.0.0.1"}, Logger: log.New(io.Discard, "", 0)},
-	)
-	must(t, err)
+	inner := newNetTransport(t)
 	c := &cutTransport{NetTransport: inner, streams: make(chan net.Conn)}
 	stopped := make(chan struct{})
 	t.Cleanup(func() { close(stopped) })
@@ -174,8 +169,9 @@ func TestConfirmedFiringSurvivesItsFirer(t *testing.T) {
 
 	runs["a"].isStopped.Store(false)
 	a = runs["a"].startHandling(t, "a", folder, atPort(port))
-	if !ran("confirmed", 1, 0, 0) {
-		t.Errorf("at the start the handler ran %d times", runs["a"].count("confirmed"))
+	// (b or c may have the event already, since the new node joins a member of its snapshot by itself)
+	if count := runs["a"].count("confirmed"); count != 1 {
+		t.Errorf("at the start the handler ran %d times", count)
 	}
 	a.join(c)
 	eventually(t, "the handler runs on all nodes", func() bool { return ran("confirmed", 1, 1, 1) })

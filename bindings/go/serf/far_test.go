@@ -153,9 +153,13 @@ func waitUntilIdle(t *testing.T, a *testNode) {
 // then, each of the two receives the events that the other fires. (An event that is fired while parts of the flood
 // still wait is soon too old for the new node.)
 func TestNodeThatJoinsAfterFlood(t *testing.T) {
-	a, b := startPair(t)
+	// (nothing else sends a query or an intent again if all its packets are lost)
+	withRetransmits := func(o *nodeOptions) { o.MemberlistConfig.RetransmitMult = 6 }
+	a, b := startPair(t, withRetransmits)
 	floodNearBound(a, time.Second)
 	waitUntilIdle(t, a)
+	// (the node may still be processing the last part of the flood)
+	a.waitForMark(farTimeAfter(0) - 1)
 	eventually(t, "both have clocks near the threshold", func() bool {
 		for _, node := range []*testNode{a, b} {
 			if clocks := node.clocks(); clocks.Event < FarTime || clocks.Query < FarTime || clocks.Member < FarTime {
@@ -167,7 +171,7 @@ func TestNodeThatJoinsAfterFlood(t *testing.T) {
 	if err := a.UserEvent("before", nil, false); err != nil {
 		t.Fatal(err)
 	}
-	c := startNode(t, "c", "")
+	c := startNode(t, "c", "", withRetransmits)
 	if clocks := c.clocks(); clocks.Event > 9 || clocks.Query > 9 || clocks.Member > 9 {
 		t.Fatalf("the clocks of a new node: %+v", clocks)
 	}

@@ -395,8 +395,10 @@ func (f *flooder) verify(t *testing.T, a *testNode, min int) {
 			t.Errorf("%s was handed out %d times", what, times)
 		}
 	}
-	if f.events < min || f.queries < min || a.droppedFar.Load() < int64(min) || a.Fault() != nil || a.Serf.events.NumQueued() > Waiting ||
-		len(a.members.intents) > maxIntents {
+	a.members.mu.Lock()
+	intents := len(a.members.intents)
+	a.members.mu.Unlock()
+	if f.events < min || f.queries < min || a.droppedFar.Load() < int64(min) || a.Fault() != nil || a.Serf.events.NumQueued() > Waiting || intents > maxIntents {
 		t.Errorf("%d events and %d queries: %v, %v", f.events, f.queries, a.Fault(), a.Stats())
 	}
 }

@@ -68,12 +68,14 @@ func TestMalformedIntents(t *testing.T) {
 // An intent for a node that isn't a member yet is held, and raises the member clock above its time.
 func TestIntentsRaiseMemberClock(t *testing.T) {
 	a, _ := startPair(t)
-	a.delegate().NotifyMsg(unhex(t, leavePacket))
+	a.delegate().NotifyMsg(intentPacket(t, 50, "beta", true))
 	eventually(t, "the intent is held", func() bool {
-		return a.members.receiveIntent(serfagent.Intent{Time: 2, Node: "beta"}) == (intentOutcome{})
+		a.members.mu.Lock()
+		defer a.members.mu.Unlock()
+		held, isHeld := a.members.intents["beta"]
+		return isHeld && held.Time == 50
 	})
-	clocks, err := a.agent.Clocks()
-	if err != nil || clocks.Member < 3 {
-		t.Error(clocks, err)
+	if clocks := a.clocks(); clocks.Member < 51 {
+		t.Error(clocks)
 	}
 }

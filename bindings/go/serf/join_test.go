@@ -48,6 +48,7 @@ func TestNoJoinIntentAfterLeave(t *testing.T) {
 // A node sends no join intent to refute a leave if it has sent a later join intent in the meantime.
 func TestLeavesAreRefutedOnce(t *testing.T) {
 	a, b := startPair(t)
+	eventually(t, "a receives b's first join intent", func() bool { return a.statusTime("b") > 0 })
 	b.delegate().NotifyMsg(intentPacket(t, 100, "b", true))
 	eventually(t, "a receives b's join intent", func() bool { return a.statusTime("b") > 100 })
 	before, err := b.agent.Clocks()

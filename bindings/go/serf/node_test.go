@@ -210,7 +210,7 @@ func TestRefusedQueries(t *testing.T) {
 
 func TestJoinLeaveAndFail(t *testing.T) {
 	folder := t.TempDir()
-	a := startNode(t, "a", folder)
+	a := startNode(t, "a", folder, withFailures)
 	b := startNode(t, "b", folder)
 	c := startNode(t, "c", folder)
 	b.join(a)
@@ -393,21 +393,15 @@ func TestResolveConflict(t *testing.T) {
 
 // Shutdown does not wait for the answers of a query about a name conflict.
 func TestShutdownDuringConflictQuery(t *testing.T) {
-	a, _ := startPair(t)
+	// (this query is open for 200 s)
+	a, _ := startPair(t, func(o *nodeOptions) { o.QueryTimeoutMult = 2000 })
 	a.delegate().NotifyConflict(a.memberlist().LocalNode(), &memberlist.Node{Name: "a", Addr: []byte{127, 9, 9, 9}, Port: 1})
 	eventually(t, "the query is open", func() bool {
 		a.agentMu.Lock()
 		defer a.agentMu.Unlock()
 		return len(a.openQueries) == 1
 	})
-	ended := make(chan error, 1)
-	go func() { ended <- a.Shutdown() }()
-	select {
-	case err := <-ended:
-		check(t, err)
-	case <-time.After(2 * time.Minute):
-		t.Fatal("Shutdown is still waiting")
-	}
+	promptly(t, "Shutdown", func() { check(t, a.Shutdown()) })
 }
 
 // The second node with a name ends, and the first one continues.

@@ -56,11 +56,22 @@ func (o *ownTransport) Shutdown() error {
 
 func newOwnTransport(t *testing.T) *ownTransport {
 	t.Helper()
-	inner, err := memberlist.NewNetTransport(
-		&memberlist.NetTransportConfig{BindAddrs: []string{"127.0.0.1"}, Logger: log.New(io.Discard, "", 0)},
-	)
-	must(t, err)
-	return &ownTransport{NetTransport: inner}
+	return &ownTransport{NetTransport: newNetTransport(t)}
+}
+
+// newNetTransport returns memberlist's transport on loopback, at a port that the system chooses. The system chooses it for
+// TCP, and another process may use the same number for UDP, so newNetTransport tries several times.
+func newNetTransport(t *testing.T) *memberlist.NetTransport {
+	t.Helper()
+	for attempt := 0; ; attempt++ {
+		transport, err := memberlist.NewNetTransport(&memberlist.NetTransportConfig{BindAddrs: []string{"127.0.0.1"}, Logger: log.New(io.Discard, "", 0)})
+		if err == nil {
+			return transport
+		}
+		if attempt == 9 || !strings.Contains(err.Error(), "address already in use") {
+			t.Fatal(err)
+		}
+	}
 }
 
 // The guard also wraps a program's own transport. A packet that is longer than usual passes if the configuration allows
@@ -178,7 +189,7 @@ func TestWarningWithoutKey(t *testing.T) {
 // Joining a node whose table of members is full fails, and the error says why. If one of its members has failed, that
 // member makes room.
 func TestJoinOfAFullNode(t *testing.T) {
-	full := startNode(t, "full", "", func(o *nodeOptions) { o.Guard.Members = 2 })
+	full := startNode(t, "full", "", withFailures, func(o *nodeOptions) { o.Guard.Members = 2 })
 	second, third := startNode(t, "second", ""), startNode(t, "third", "")
 	second.join(full)
 	if _, err := third.Join([]string{full.address()}, false); err == nil ||
