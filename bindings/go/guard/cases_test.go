@@ -317,7 +317,7 @@ func serveOnce(t *testing.T, bytes []byte) string {
 			return
 		}
 		defer conn.Close()
-		conn.SetDeadline(time.Now().Add(10 * time.Second))
+		conn.SetDeadline(time.Now().Add(time.Minute))
 		conn.Read(make([]byte, 65536))
 		conn.Write(bytes)
 		conn.(*net.TCPConn).CloseWrite()

@@ -83,11 +83,11 @@ func (t *delegate) sendAll(list *memberlist.Memberlist) string {
 	return ""
 }
 
-// testConfig returns memberlist's configuration for a node on loopback.
+// testConfig returns memberlist's configuration for a node on loopback. On a busy machine, streams may take long.
 func testConfig(name string, isKeyed bool) *memberlist.Config {
 	c := memberlist.DefaultLANConfig()
 	c.Name, c.BindAddr, c.BindPort, c.LogOutput, c.Delegate = name, "127.0.0.1", 0, io.Discard, newDelegate(100)
-	c.DelegateProtocolMin, c.DelegateProtocolMax, c.DelegateProtocolVersion = 2, 5, 4
+	c.DelegateProtocolMin, c.DelegateProtocolMax, c.DelegateProtocolVersion, c.TCPTimeout = 2, 5, 4, time.Minute
 	if isKeyed {
 		c.SecretKey = testKey
 	}
@@ -150,10 +150,15 @@ func runChild(encoded string) {
 		if !options.IsHonest && !options.IsProving {
 			settings.AdmitUnproven, settings.NamesPerAddress = true, manyNames
 		}
+		probeTimeout := c.ProbeTimeout
+		if options.IsHonest && !options.IsProving {
+			// (on a busy machine, the guard would ping a new node several times, and count all answers but the first)
+			c.ProbeTimeout = 10 * time.Second
+		}
 		if transport, err = New(c, settings); err != nil {
 			panic(err)
 		}
-		c.Transport = localTransport{transport}
+		c.Transport, c.ProbeTimeout = localTransport{transport}, probeTimeout
 	}
 	list, err := memberlist.Create(c)
 	if err != nil {
@@ -194,7 +199,7 @@ func runCommand(list *memberlist.Memberlist, d *delegate, transport *Transport, 
 	case "heard":
 		return d.received.Load()
 	case "leave":
-		if err := list.Leave(10 * time.Second); err != nil {
+		if err := list.Leave(time.Minute); err != nil {
 			return err.Error()
 		}
 	}
@@ -301,7 +306,7 @@ func (c *child) sealStream(message []byte) []byte {
 // isAlive pings the child until an ack arrives. By then, the child has inspected all packets that were sent before.
 func (c *child) isAlive() bool {
 	buf := make([]byte, 65536)
-	for try := 0; try < 20; try++ {
+	for try := 0; try < 120; try++ {
 		c.number++
 		c.udp.Write(c.seal(message(msgPing, map[string]any{"SeqNo": c.number, "Node": c.Name})))
 		c.udp.SetReadDeadline(time.Now().Add(500 * time.Millisecond))

@@ -175,7 +175,7 @@ func readStream(g *Transport, data []byte, isDialed bool) []byte {
 func TestCut(t *testing.T) {
 	for _, isKeyed := range []bool{false, true} {
 		for _, wrap := range []func([]byte) []byte{func(b []byte) []byte { return b }, withChecksum, compressed} {
-			c := startChild(t, childOptions{IsKeyed: isKeyed})
+			c := startChild(t, childOptions{IsKeyed: isKeyed, Members: 100})
 			c.udp.Write(c.seal(wrap(compound(versionsAlive(1), alive("first", nil), []byte{}, alive("second", nil)))))
 			eventually(t, "a good part of a packet was lost", func() bool { return c.count("members") == 3 })
 			if drops := c.drops(); len(drops) != 2 || drops["versions"] != 1 || drops["empty"] != 1 {
@@ -183,7 +183,7 @@ func TestCut(t *testing.T) {
 			}
 		}
 		for _, wrap := range []func([]byte) []byte{func(b []byte) []byte { return b }, compressed} {
-			c := startChild(t, childOptions{IsKeyed: isKeyed})
+			c := startChild(t, childOptions{IsKeyed: isKeyed, Members: 100})
 			nodes := []map[string]any{
 				node("bad", map[string]any{"Vsn": []byte{1}}), node("first", map[string]any{"State": 0}),
 				node("none", map[string]any{"Addr": zeros(3)}), node("last", map[string]any{"State": 0}),
