@@ -28,12 +28,18 @@ func countsOf(r *Runner) map[string]int64 {
 // Each run is counted by its result. An event for which no handler ran is counted too.
 func TestResultsAreCounted(t *testing.T) {
 	t.Parallel()
-	r, output := newRunner(t, 10*time.Second, "user:ok=true", "user:fails=exit 3", "user:hangs=sleep 100", "user:missing=/nowhere/script")
-	for _, name := range []string{"ok", "fails", "hangs", "missing", "none"} {
+	r, output := newRunner(t, time.Minute, "user:ok=true", "user:fails=exit 3", "user:missing=/nowhere/script")
+	for _, name := range []string{"ok", "fails", "missing", "none"} {
 		r.Add(userEventOf(name, "p"))
 	}
 	r.Close(time.Minute)
-	if counted := countsOf(r); !reflect.DeepEqual(counted, map[string]int64{"ok": 1, "failed": 2, "timed_out": 1}) {
+	if counted := countsOf(r); !reflect.DeepEqual(counted, map[string]int64{"ok": 1, "failed": 2}) {
+		t.Error(counted, output)
+	}
+	r, output = newRunner(t, 100*time.Millisecond, "user:hangs=sleep 100")
+	r.Add(userEventOf("hangs", "p"))
+	r.Close(time.Minute)
+	if counted := countsOf(r); !reflect.DeepEqual(counted, map[string]int64{"timed_out": 1}) {
 		t.Error(counted, output)
 	}
 }
@@ -131,7 +137,7 @@ func TestNamesOfScripts(t *testing.T) {
 
 // Before a handler has run, the metric of its results already exists, with the value 0.
 func TestResultsAreAnnounced(t *testing.T) {
-	sink := metrics.NewInmemSink(time.Hour, 2*time.Hour)
+	sink := metrics.NewInmemSink(testkit.LongInterval, testkit.LongInterval)
 	conf := metrics.DefaultConfig("test")
 	conf.EnableHostname, conf.EnableRuntimeMetrics = false, false
 	_, err := metrics.NewGlobal(conf, sink)

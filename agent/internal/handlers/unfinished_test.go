@@ -99,22 +99,23 @@ func (f *fakeTracker) waitUntil(t *testing.T, calls string) {
 func TestHandlersAreTracked(t *testing.T) {
 	t.Parallel()
 	ran := filepath.Join(t.TempDir(), "ran")
-	r, tracker, _ := trackedRunner(
-		t, 500*time.Millisecond, "user:deploy=cat >>"+ran, "user:deploy=false", "user:long=sleep 100", "query,member-join=true",
-	)
+	r, tracker, _ := trackedRunner(t, time.Minute, "user:deploy=cat >>"+ran, "user:deploy=false", "query,member-join=true")
 	r.Add(userEventOf("none", "none"))
 	tracker.waitUntil(t, "done none")
 	r.Add(userEventOf("deploy", "a"))
-	r.Add(userEventOf("long", "b"))
 	r.Add(serf.MemberEvent{Type: serf.EventMemberJoin})
 	r.Add(&serf.Query{Name: "load"})
-	tracker.waitUntil(t, "done none, begin a, done a cat=0 false=1, begin b, done b sleep=timed-out")
+	tracker.waitUntil(t, "done none, begin a, done a cat=0 false=1")
 	r.Close(time.Minute)
 	if text := testkit.Read(t, ran); text != "a\n" {
 		t.Errorf("%q", text)
 	}
-	if r.Unfinished() != 0 {
-		t.Error(r.Unfinished())
+	short, tracker, _ := trackedRunner(t, 100*time.Millisecond, "user:long=sleep 100")
+	short.Add(userEventOf("long", "b"))
+	tracker.waitUntil(t, "begin b, done b sleep=timed-out")
+	short.Close(time.Minute)
+	if r.Unfinished() != 0 || short.Unfinished() != 0 {
+		t.Error(r.Unfinished(), short.Unfinished())
 	}
 }
 
@@ -143,17 +144,25 @@ func TestCloseLeavesOpen(t *testing.T) {
 		grace       time.Duration
 		calls, says string
 	}{
-		{"user=echo >%s; sleep 1", time.Minute, "begin a, done a echo=0", "2 events are waiting for their handlers"},
-		{"user=echo >%s; sleep 100", 10 * time.Millisecond, "begin a", "it was ended, since the agent is shutting down"},
+		{"user=echo >FILE; while [ ! -e FILE-end ]; do sleep 0.01; done", time.Minute, "begin a, done a echo=0", "2 events are waiting for their handlers"},
+		{"user=echo >FILE; sleep 100", 10 * time.Millisecond, "begin a", "it was ended, since the agent is shutting down"},
 	} {
 		started := filepath.Join(t.TempDir(), "started")
-		r, tracker, output := trackedRunner(t, 0, fmt.Sprintf(test.script, started), "member-join=echo joined")
+		r, tracker, output := trackedRunner(t, 0, strings.ReplaceAll(test.script, "FILE", started), "member-join=echo joined")
 		for _, payload := range []string{"a", "b", "c"} {
 			r.Add(userEventOf("deploy", payload))
 		}
 		r.Add(serf.MemberEvent{Type: serf.EventMemberJoin})
 		testkit.Eventually(t, "the handler runs", func() bool { return exists(started) })
-		r.Close(test.grace)
+		closed := make(chan struct{})
+		go func() {
+			defer close(closed)
+			r.Close(test.grace)
+		}()
+		// (the first handler ends only after this)
+		testkit.Eventually(t, "the other events are left open", func() bool { return output.Has("2 events are waiting for their handlers") })
+		testkit.Write(t, started+"-end", "")
+		<-closed
 		r.Add(userEventOf("deploy", "late"))
 		if found := tracker.list(); found != test.calls {
 			t.Errorf("%q, and not %q", found, test.calls)

@@ -10,6 +10,10 @@ import (
 	"time"
 )
 
+// LongInterval is an interval for a sink of metrics in memory. The sink begins a new interval when the time of day is a
+// multiple of it, which doesn't happen during a test.
+const LongInterval = 100 * 365 * 24 * time.Hour
+
 // Must ends the test if err isn't nil.
 func Must(t testing.TB, err error) {
 	t.Helper()
