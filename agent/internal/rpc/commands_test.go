@@ -160,8 +160,6 @@ func TestQueries(t *testing.T) {
 	p := dial(t, s).handshake()
 	p.expect(p.request("query", queryBody{Name: "large"}), "query exceeds limit of 1024 bytes")
 	events := f.withNode(t)
-	seq := p.request("query", queryBody{Name: "load", RequestAck: true, Timeout: int64(5 * time.Second)})
-	p.expect(seq, "")
 	go func() {
 		for e := range events {
 			if query, ok := e.(*serf.Query); ok {
@@ -170,12 +168,16 @@ func TestQueries(t *testing.T) {
 		}
 	}()
 	var found []string
-	for {
-		var record queryResult
+	// (on a busy machine, the answers may be too late for the first query)
+	for timeout := time.Second; len(found) < 3 && timeout < 2*time.Minute; timeout *= 4 {
+		seq := p.request("query", queryBody{Name: "load", RequestAck: true, Timeout: int64(timeout)})
 		p.expect(seq, "")
-		p.read(&record)
-		if found = append(found, fmt.Sprint(record.Type, record.From, string(record.Payload))); record.Type == "done" {
-			break
+		found = nil
+		for isLast := false; !isLast; {
+			var record queryResult
+			p.expect(seq, "")
+			p.read(&record)
+			found, isLast = append(found, fmt.Sprint(record.Type, record.From, string(record.Payload))), record.Type == "done"
 		}
 	}
 	sort.Strings(found)

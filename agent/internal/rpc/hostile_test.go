@@ -33,7 +33,12 @@ func TestBeforeHandshake(t *testing.T) {
 	p = dial(t, s).handshake()
 	p.expect(p.request("nonsense"), "Authentication required")
 	p.expectClosed()
-	dial(t, s).handshake().expectClosed()
+	quick := testTimeouts
+	quick.handshake = 500 * time.Millisecond
+	s, _, _ = startServerWith(t, "sesame", quick)
+	p = dial(t, s)
+	p.request("handshake", handshakeBody{1})
+	p.expectClosed()
 }
 
 // Only the whole token authenticates a client. The client has a single attempt, after the handshake.
@@ -94,7 +99,11 @@ func TestBadRequests(t *testing.T) {
 		"a list for a text":      header("event") + "\x81\xa4Name\x91\xc0",
 		"the web's own protocol": "GET / HTTP/1.1\r\n\r\n",
 	} {
-		s, f, _ := startServer(t, "")
+		timeouts := testTimeouts
+		if strings.HasPrefix(name, "half") {
+			timeouts.request = 500 * time.Millisecond
+		}
+		s, f, _ := startServerWith(t, "", timeouts)
 		p := dial(t, s).handshake()
 		if _, err := io.WriteString(p.conn, bytes); err != nil {
 			t.Fatal(err)
@@ -235,7 +244,9 @@ func TestSlowClient(t *testing.T) {
 
 // A client that reads nothing for too long is disconnected, even if little is queued for it.
 func TestClientThatReadsNothing(t *testing.T) {
-	s, _, _ := startServer(t, "")
+	timeouts := testTimeouts
+	timeouts.send = 500 * time.Millisecond
+	s, _, _ := startServerWith(t, "", timeouts)
 	p := dial(t, s).handshake()
 	p.expect(p.request("stream", streamBody{"user:deploy"}), "")
 	testkit.Eventually(t, "one stream is open", func() bool { return countStreams(s) == 1 })
@@ -246,7 +257,9 @@ func TestClientThatReadsNothing(t *testing.T) {
 }
 
 func TestClientThatOnlySends(t *testing.T) {
-	s, f, _ := startServer(t, "")
+	timeouts := testTimeouts
+	timeouts.send = 500 * time.Millisecond
+	s, f, _ := startServerWith(t, "", timeouts)
 	f.moreMembers = make([]serf.Member, 2000)
 	p := dial(t, s).handshake()
 	data, err := encode(requestHeader{"members", 1})
