@@ -172,17 +172,21 @@ func TestBounds(t *testing.T) {
 	if text := fetchPage(t, p.listener.Addr()); !strings.Contains(text, "\nc1_total 1\n") {
 		t.Error("a gauge in a counter's place")
 	}
+	countIs := func(want int) func() bool {
+		return func() bool {
+			p.mu.Lock()
+			defer p.mu.Unlock()
+			return p.readers == want
+		}
+	}
+	testkit.Eventually(t, "the earlier readers have disconnected", countIs(0))
 	var idle []net.Conn
 	for i := 0; i < maxReaders; i++ {
 		conn, err := net.Dial("tcp", p.listener.Addr().String())
 		testkit.Must(t, err)
 		idle = append(idle, conn)
 	}
-	testkit.Eventually(t, "all readers are connected", func() bool {
-		p.mu.Lock()
-		defer p.mu.Unlock()
-		return p.readers == maxReaders
-	})
+	testkit.Eventually(t, "all readers are connected", countIs(maxReaders))
 	extra, err := net.Dial("tcp", p.listener.Addr().String())
 	testkit.Must(t, err)
 	if _, err := extra.Read(make([]byte, 1)); err == nil {
@@ -191,11 +195,7 @@ func TestBounds(t *testing.T) {
 	for _, conn := range idle {
 		conn.Close()
 	}
-	testkit.Eventually(t, "all readers have disconnected", func() bool {
-		p.mu.Lock()
-		defer p.mu.Unlock()
-		return p.readers == 0
-	})
+	testkit.Eventually(t, "all readers have disconnected", countIs(0))
 	fetchPage(t, p.listener.Addr())
 }
 
