@@ -9,6 +9,7 @@ import (
 	"net"
 	"net/http"
 	"os"
+	"os/signal"
 	"path/filepath"
 	"reflect"
 	"strings"
@@ -23,16 +24,11 @@ import (
 	"kitchenrue.example/serfagent"
 )
 
-// parseConfig returns the configuration of an agent on loopback, with these flags.
+// parseConfig returns the configuration of an agent on loopback, with these flags. (On a busy machine, a leave may take
+// long.)
 func parseConfig(t testing.TB, words ...string) config.Config {
 	t.Helper()
-	found, err := config.Parse(
-		append(
-			[]string{"-node", "a", "-bind", "127.0.0.1:0", "-rpc-addr", "127.0.0.1:0", "-log-level", "debug", "-profile", "local"},
-			words...,
-		),
-		&testkit.Output{},
-	)
+	found, err := config.Parse(append([]string{"-node", "a", "-bind", "127.0.0.1:0", "-rpc-addr", "127.0.0.1:0", "-log-level", "debug", "-broadcast-timeout", "1m"}, words...), &testkit.Output{})
 	testkit.Must(t, err)
 	return found
 }
@@ -80,6 +76,7 @@ func TestLife(t *testing.T) {
 	}
 	again, _ := startApp(t, words...)
 	testkit.Must(t, again.Fire("deploy", []byte("v3"), false))
+	testkit.Eventually(t, "the event of the second life is handled", func() bool { return strings.HasSuffix(testkit.Read(t, handled), "v3\n") })
 	testkit.Check(t, again.Close())
 	if text := testkit.Read(t, handled); !strings.HasSuffix(text, "big 3\nv3\n") {
 		t.Errorf("the clock didn't stop: %q", text)
@@ -169,6 +166,7 @@ func TestReload(t *testing.T) {
 		t.Error("an unknown event is accepted")
 	}
 	testkit.Must(t, a.Fire("x", nil, false))
+	testkit.Eventually(t, "the event is handled", func() bool { text, _ := os.ReadFile(handled); return strings.HasSuffix(string(text), "\n") })
 	testkit.Check(t, a.Close())
 	if testkit.Read(t, handled) != "two\n" || strings.Contains(out.String()[len(before):], "INFO") {
 		t.Error(testkit.Read(t, handled), out)
@@ -328,21 +326,26 @@ func TestJoining(t *testing.T) {
 	})
 }
 
-// A name is resolved once at the start, and the agent listens only at its address: the port stays free at another one.
+// A name is resolved once at the start, and the agent listens only at its address: the port may be in use at another one.
 func TestNamedAddresses(t *testing.T) {
-	free, err := net.Listen("tcp4", "127.0.0.1:0")
+	start := func() (*App, error) {
+		other, err := net.ListenPacket("udp4", "127.0.0.2:0")
+		testkit.Must(t, err)
+		defer other.Close()
+		port := other.LocalAddr().(*net.UDPAddr).Port
+		return Start(parseConfig(t, "-bind", fmt.Sprint("localhost:", port), "-rpc-addr", "localhost:0", "-advertise", "localhost:7999"), &testkit.Output{})
+	}
+	a, err := start()
+	// (another process may use the port at 127.0.0.1)
+	for tries := 0; tries < 9 && err != nil && strings.Contains(err.Error(), "address already in use"); tries++ {
+		a, err = start()
+	}
 	testkit.Must(t, err)
-	port := free.Addr().(*net.TCPAddr).Port
-	free.Close()
-	a, _ := startApp(t, "-bind", fmt.Sprint("localhost:", port), "-rpc-addr", "localhost:0", "-advertise", "localhost:7999")
 	defer a.Close()
 	node := a.node.Memberlist().LocalNode()
 	if !node.Addr.IsLoopback() || node.Port != 7999 || !a.server.Load().Addr().(*net.TCPAddr).IP.IsLoopback() {
 		t.Error(node.Addr, node.Port, a.server.Load().Addr())
 	}
-	listener, err := net.ListenPacket("udp4", fmt.Sprint("127.0.0.2:", port))
-	testkit.Must(t, err)
-	listener.Close()
 }
 
 // The log reports implausible clocks in a snapshot at the start. The first clock is below the bound, as a flood may
@@ -393,20 +396,15 @@ func TestMainStatuses(t *testing.T) {
 
 // The page for Prometheus has the agent's own figures and the node's metrics.
 func TestMainMetrics(t *testing.T) {
-	free, err := net.Listen("tcp", "127.0.0.1:0")
-	testkit.Must(t, err)
-	at := free.Addr().String()
-	free.Close()
-	var out, errs testkit.Output
-	ended := make(chan int, 1)
-	go func() {
-		ended <- Main([]string{"-node", "a", "-bind", "127.0.0.1:0", "-rpc-addr", "127.0.0.1:0", "-prometheus-addr", at}, &out, &errs)
-	}()
-	testkit.Eventually(t, "the agent runs", func() bool { return strings.Contains(out.String(), "Log data will now stream") })
-	for _, what := range []string{
-		"\nserf_members 1\n", "\nagent_handlers_waiting 0\n", "\nserf_member_joins_total 1\n", "\nserf_dropped_far_total 0\n",
-		"\nserf_refused_total{reason=\"too_long\"} 0\n", "\nserf_ignored_total{reason=\"too_old\"} 0\n", "\nserf_events_missing 0\n",
-	} {
+	at, errs, ended := startWithMetrics(t)
+	for tries := 0; tries < 9 && errs.Has("address already in use"); tries++ {
+		at, errs, ended = startWithMetrics(t)
+	}
+	if len(ended) > 0 {
+		t.Fatal(errs)
+	}
+	for _, what := range []string{"\nserf_members 1\n", "\nagent_handlers_waiting 0\n", "\nserf_member_joins_total 1\n", "\nserf_dropped_far_total 0\n",
+		"\nserf_refused_total{reason=\"too_long\"} 0\n", "\nserf_ignored_total{reason=\"too_old\"} 0\n", "\nserf_events_missing 0\n"} {
 		testkit.Eventually(t, what, func() bool {
 			answer, err := http.Get("http://" + at + "/metrics")
 			if err != nil {
@@ -423,7 +421,28 @@ func TestMainMetrics(t *testing.T) {
 	}
 }
 
+// startWithMetrics runs an agent with a page for Prometheus at a free address, until it runs or has ended. It returns
+// that address, the agent's errors, and the channel that receives its status. (Another process may use the port before
+// the agent does.)
+func startWithMetrics(t *testing.T) (at string, errs *testkit.Output, ended chan int) {
+	t.Helper()
+	free, err := net.Listen("tcp", "127.0.0.1:0")
+	testkit.Must(t, err)
+	testkit.Must(t, free.Close())
+	at, errs, ended = free.Addr().String(), &testkit.Output{}, make(chan int, 1)
+	var out testkit.Output
+	go func() {
+		ended <- Main([]string{"-node", "a", "-bind", "127.0.0.1:0", "-rpc-addr", "127.0.0.1:0", "-prometheus-addr", at}, &out, errs)
+	}()
+	testkit.Eventually(t, "the agent runs", func() bool { return out.Has("Log data will now stream") || len(ended) > 0 })
+	return at, errs, ended
+}
+
 func TestMainSignals(t *testing.T) {
+	// (without this, a signal that arrives after the agent's end would end the tests)
+	caught := make(chan os.Signal, 1)
+	signal.Notify(caught, syscall.SIGINT, syscall.SIGTERM, syscall.SIGHUP)
+	defer signal.Stop(caught)
 	for _, test := range []struct {
 		signal syscall.Signal
 		words  []string
@@ -450,19 +469,20 @@ func TestMainSignals(t *testing.T) {
 			ended <- Main(words, &out, &errs)
 		}()
 		testkit.Eventually(t, "the agent runs", func() bool { return strings.Contains(out.String(), "Log data will now stream") })
+		send := func(sent syscall.Signal) {
+			testkit.Must(t, syscall.Kill(os.Getpid(), sent))
+			name := fmt.Sprint("==> Caught signal: ", sent)
+			testkit.Eventually(t, name, func() bool { return out.Has(name) })
+		}
+		send(syscall.SIGHUP)
+		testkit.Eventually(t, "it is reloaded", func() bool { return out.Has("==> Reloaded the configuration.") })
 		if test.words != nil {
-			// Before each write of members, the node checks whether the snapshot was changed. If it noticed the missing
-			// file at the first of these writes, it would end before the signals arrive.
-			testkit.Eventually(
-				t, "the node is in its snapshot", func() bool { return strings.Contains(testkit.Read(t, path), "alive: a ") },
-			)
+			// Before each write of members, and every ten seconds, the node checks whether the snapshot was changed. If
+			// it noticed the missing file then, it would end before the signal arrives.
+			testkit.Eventually(t, "the node is in its snapshot", func() bool { return strings.Contains(testkit.Read(t, path), "alive: a ") })
 			testkit.Must(t, os.Remove(path))
 		}
-		for _, signal := range []syscall.Signal{syscall.SIGHUP, test.signal} {
-			testkit.Must(t, syscall.Kill(os.Getpid(), signal))
-			name := fmt.Sprint("==> Caught signal: ", signal)
-			testkit.Eventually(t, name, func() bool { return strings.Contains(out.String(), name) })
-		}
+		send(test.signal)
 		select {
 		case status := <-ended:
 			if status != test.status || !strings.Contains(out.String(), test.says) || !strings.Contains(errs.String(), test.fault) ||

@@ -101,9 +101,19 @@ func TestFloodOfQueries(t *testing.T) {
 	words := []string{"-snapshot", path, "-keep-events"}
 	a, _ := startApp(t, words...)
 	s := strangerTo(t, a)
+	marks := uint64(0)
 	for time := uint64(1); time < 4; time++ {
 		for id := uint32(0); id < 2000; id++ {
 			s.send(queryMessage, strangerQuery{LTime: time, ID: 1<<32 - 1 - id, Name: strings.Repeat("x", 500)})
+			if id%250 != 249 {
+				continue
+			}
+			// A queue without room loses packets too.
+			marks++
+			testkit.Eventually(t, "the node has processed the earlier packets", func() bool {
+				s.send(eventMessage, strangerEvent{LTime: marks, Name: "mark"})
+				return a.Stats()["serf"]["event_time"] == fmt.Sprint(marks+1)
+			})
 		}
 	}
 	testkit.Eventually(t, "the last time is heard of", func() bool {
@@ -135,7 +145,7 @@ func TestFloodOfQueries(t *testing.T) {
 // In a flood of other events, each event for which there is a handler still has a line in the log, and its name has a
 // metric.
 func TestFloodOfEventsWithoutHandler(t *testing.T) {
-	sink := metrics.NewInmemSink(time.Hour, 2*time.Hour)
+	sink := metrics.NewInmemSink(testkit.LongInterval, testkit.LongInterval)
 	conf := metrics.DefaultConfig("test")
 	conf.EnableHostname, conf.EnableRuntimeMetrics = false, false
 	_, err := metrics.NewGlobal(conf, sink)

@@ -71,9 +71,10 @@ func TestEventsMissedWhileDown(t *testing.T) {
 		words []string
 		want  string
 	}{{[]string{"-keep-events"}, "present missed back"}, {nil, "present back"}} {
-		a, _ := startApp(t)
+		// (an event of this size is too long to be gossiped. Otherwise, it could reach b while b still joins)
+		a, _ := startApp(t, "-config-file", testkit.Write(t, filepath.Join(t.TempDir(), "limit"), `{"user_event_size_limit": 2000}`))
 		address := a.node.Memberlist().LocalNode().Address()
-		fire(t, a, "old")
+		fire(t, a, strings.Repeat("old", 500))
 		b := startRestarted(t, address, test.words...)
 		fire(t, a, "present")
 		b.waitForHandled("present")

@@ -79,16 +79,20 @@ func TestRecords(t *testing.T) {
 	}
 	fire(a, "v1", b, c)
 	for _, tags := range []map[string]string{nil, {"role": "^[ab]$"}} {
-		response, err := a.Query("load", nil, &serf.QueryParam{RequestAck: true, Timeout: 5 * time.Second, FilterTags: tags})
-		testkit.Must(t, err)
-		answers := 0
-		for range response.AckCh() {
-			answers++
+		answers, want := 0, 6-2*len(tags)
+		// (on a busy machine, answers may be too late for the first query)
+		for timeout := 5 * time.Second; answers < want && timeout < 2*time.Minute; timeout *= 4 {
+			response, err := a.Query("load", nil, &serf.QueryParam{RequestAck: true, Timeout: timeout, FilterTags: tags})
+			testkit.Must(t, err)
+			answers = 0
+			for range response.AckCh() {
+				answers++
+			}
+			for range response.ResponseCh() {
+				answers++
+			}
 		}
-		for range response.ResponseCh() {
-			answers++
-		}
-		if answers != 6-2*len(tags) {
+		if answers != want {
 			t.Error(tags, answers)
 		}
 	}

@@ -65,6 +65,7 @@ func TestOrderlyEndLeavesOpen(t *testing.T) {
 		fire(t, a.App, word)
 	}
 	a.waitForHandled("one")
+	testkit.Eventually(t, "the others wait", func() bool { events, _ := a.runner.Waiting(); return events == 2 })
 	signals, ended := make(chan os.Signal, 1), make(chan int)
 	go func() { ended <- a.run(nil, signals, a.out, a.out) }()
 	signals <- syscall.SIGTERM
