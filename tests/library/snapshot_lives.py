@@ -121,7 +121,9 @@ class Place(go_mutants.Place):
 
     def tested(self, package, name, tests=".", planted=""):
         """Runs tests of a package. Returns which failed, and the records held against the premise."""
-        folder, words = self.records(name), [self.program(package), "-test.v", "-test.timeout", "8m", "-test.run", tests]
+        # (without a wrong host nothing hangs, however busy the machine is)
+        limit = "8m" if planted else "30m"
+        folder, words = self.records(name), [self.program(package), "-test.v", "-test.timeout", limit, "-test.run", tests]
         env = {**os.environ, planting.VARIABLE: planted, "KITCHENRUE_LIVES": folder, "GOMAXPROCS": "2"}
         status, output = c_library.ran(words, cwd=os.path.join(self.source, package), env=env)
         failed = re.findall(r"^--- FAIL: (\w+)", output, re.M) or re.findall(r"^=== RUN   (\w+)$", output, re.M)[-1:] if status else []
