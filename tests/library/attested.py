@@ -87,6 +87,8 @@ class Cluster:
             node.words += [word for other in self.nodes if other is not node for word in ("-retry-join", other.addr)]
         for node in self.nodes:
             node.start()
+        # (on a busy machine, the first joins may take long)
+        until(lambda: all(len(node.serf("members", "-status=alive")[1].splitlines()) == len(self.nodes) for node in self.nodes), REST)
 
     def fire(self):
         """Fires an event or a query at a node that is up."""

@@ -166,7 +166,7 @@ class Torment:
                 next_kill = time.monotonic() + self.draw.uniform(0.1, 0.6)
 
     def rest(self):
-        """Starts all nodes that are down, and waits until no handler runs any more."""
+        """Starts all nodes that are down, and waits until no handler runs any more and no event is missing that may still arrive."""
         for node in self.nodes:
             if node.starting is not None:
                 node.starting.join()
@@ -181,7 +181,9 @@ class Torment:
                 last, since = now, time.monotonic()
             return time.monotonic() - since > STILL
 
-        return until(is_still, REST)
+        # (on a busy machine, a node may still be joining the others)
+        until(lambda: is_still() and (self.asked.without or not Outcome(self, False).missed["other"]), REST)
+        return is_still()
 
 
 def noted(text):

@@ -330,13 +330,11 @@ def check_kills(count, program, folder, net, kills):
     the last times, and sends them again."""
     ran, snapshot = os.path.join(folder, "ran"), os.path.join(folder, "snapshot")
     peer = Node(program, folder, "peer", net, 8, "-log-level=err").start()
-    node = Node(
-        program, folder, "killed", net, 9, "-log-level=err", f"-snapshot={snapshot}", f"-event-handler=user:x=read -r n; echo $n >>{ran}"
-    )
-    node.start(f"-join={peer.address}")
-    count.check(
-        "cmd/serf over ours: its file names the other", until(lambda: "alive: peer " in checks.text_of(snapshot)), checks.text_of(snapshot)
-    )
+    node = Node(program, folder, "killed", net, 9, "-log-level=err", f"-snapshot={snapshot}", f"-event-handler=user:x=read -r n; echo $n >>{ran}")
+    node.start()
+    joins = {"Existing": [peer.address], "Replay": False}
+    count.check("cmd/serf over ours: it joins the other", until(lambda: node.ask("join", joins)))
+    count.check("cmd/serf over ours: its file names the other", until(lambda: "alive: peer " in checks.text_of(snapshot)), checks.text_of(snapshot))
     flood = Flood(peer)
     flood.start()
     for life in range(kills):
@@ -370,7 +368,7 @@ def check_full_disk(count, program, folder, net, peer):
     node.words = ["sh", "-c", f'exec "$@" >&{writes} 2>&1', "sh", *node.words]
     node.start(preexec_fn=with_little_room, restore_signals=False, pass_fds=[writes])
     os.close(writes)
-    count.check("the other joins it", peer.ask("join", {"Existing": [node.address], "Replay": False}))
+    count.check("the other joins it", until(lambda: peer.ask("join", {"Existing": [node.address], "Replay": False})))
     for number in range(100):
         try:
             node.ask("event", {"Name": "x", "Payload": str(number), "Coalesce": False})

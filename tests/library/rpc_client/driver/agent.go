@@ -56,7 +56,8 @@ func (r *run) startWith(auth, name string, number int, words ...string) *agent {
 		r.fail(err)
 	}
 	command := append(append([]string{}, r.program...), "-node="+name, "-bind="+a.addr, "-rpc-addr="+a.rpcAddr(), "-config-file="+settings)
-	command = append(command, "-profile=local", "-log-level=debug")
+	// (on a busy machine, a join or a leave may take long)
+	command = append(command, "-profile=lan", "-broadcast-timeout=60s", "-log-level=debug")
 	a.process = exec.Command(command[0], append(command[1:], words...)...)
 	a.process.SysProcAttr = &syscall.SysProcAttr{Pdeathsig: syscall.SIGKILL}
 	if a.process.Stdout, err = os.Create(filepath.Join(r.folder, name+".log")); err == nil {
