@@ -184,7 +184,8 @@ def recorded(count, folder):
         ]
         count.check(f"{what}: each call has the answer of the reference", len(actions) == len(answers) and not other, other)
         count.check(f"{what}: all is recorded", sum(" # " in line for line in actions) > 20, written)
-        # (of what these nodes sent, only a query with a filter of tags is another packet at a node that it passes. The first query has none)
+        # (of what these nodes sent, only a query with a filter of tags is another packet at a node that it passes. The first query has
+        # none)
         injected = sum(": inject " in line for line in written.splitlines())
         queries = sum(call.kind == "query" for node in nodes for call in node.calls)
         count.check(f"{what}: packets are those that were sent", injected < queries, written)

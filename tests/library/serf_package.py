@@ -330,11 +330,15 @@ def check_kills(count, program, folder, net, kills):
     the last times, and sends them again."""
     ran, snapshot = os.path.join(folder, "ran"), os.path.join(folder, "snapshot")
     peer = Node(program, folder, "peer", net, 8, "-log-level=err").start()
-    node = Node(program, folder, "killed", net, 9, "-log-level=err", f"-snapshot={snapshot}", f"-event-handler=user:x=read -r n; echo $n >>{ran}")
+    node = Node(
+        program, folder, "killed", net, 9, "-log-level=err", f"-snapshot={snapshot}", f"-event-handler=user:x=read -r n; echo $n >>{ran}"
+    )
     node.start()
     joins = {"Existing": [peer.address], "Replay": False}
     count.check("cmd/serf over ours: it joins the other", until(lambda: node.ask("join", joins)))
-    count.check("cmd/serf over ours: its file names the other", until(lambda: "alive: peer " in checks.text_of(snapshot)), checks.text_of(snapshot))
+    count.check(
+        "cmd/serf over ours: its file names the other", until(lambda: "alive: peer " in checks.text_of(snapshot)), checks.text_of(snapshot)
+    )
     flood = Flood(peer)
     flood.start()
     for life in range(kills):

@@ -28,7 +28,10 @@ import (
 // long.)
 func parseConfig(t testing.TB, words ...string) config.Config {
 	t.Helper()
-	found, err := config.Parse(append([]string{"-node", "a", "-bind", "127.0.0.1:0", "-rpc-addr", "127.0.0.1:0", "-log-level", "debug", "-broadcast-timeout", "1m"}, words...), &testkit.Output{})
+	own := []string{
+		"-node", "a", "-bind", "127.0.0.1:0", "-rpc-addr", "127.0.0.1:0", "-log-level", "debug", "-broadcast-timeout", "1m",
+	}
+	found, err := config.Parse(append(own, words...), &testkit.Output{})
 	testkit.Must(t, err)
 	return found
 }
@@ -76,7 +79,9 @@ func TestLife(t *testing.T) {
 	}
 	again, _ := startApp(t, words...)
 	testkit.Must(t, again.Fire("deploy", []byte("v3"), false))
-	testkit.Eventually(t, "the event of the second life is handled", func() bool { return strings.HasSuffix(testkit.Read(t, handled), "v3\n") })
+	testkit.Eventually(
+		t, "the event of the second life is handled", func() bool { return strings.HasSuffix(testkit.Read(t, handled), "v3\n") },
+	)
 	testkit.Check(t, again.Close())
 	if text := testkit.Read(t, handled); !strings.HasSuffix(text, "big 3\nv3\n") {
 		t.Errorf("the clock didn't stop: %q", text)
@@ -166,7 +171,10 @@ func TestReload(t *testing.T) {
 		t.Error("an unknown event is accepted")
 	}
 	testkit.Must(t, a.Fire("x", nil, false))
-	testkit.Eventually(t, "the event is handled", func() bool { text, _ := os.ReadFile(handled); return strings.HasSuffix(string(text), "\n") })
+	testkit.Eventually(t, "the event is handled", func() bool {
+		text, _ := os.ReadFile(handled)
+		return strings.HasSuffix(string(text), "\n")
+	})
 	testkit.Check(t, a.Close())
 	if testkit.Read(t, handled) != "two\n" || strings.Contains(out.String()[len(before):], "INFO") {
 		t.Error(testkit.Read(t, handled), out)
@@ -333,7 +341,8 @@ func TestNamedAddresses(t *testing.T) {
 		testkit.Must(t, err)
 		defer other.Close()
 		port := other.LocalAddr().(*net.UDPAddr).Port
-		return Start(parseConfig(t, "-bind", fmt.Sprint("localhost:", port), "-rpc-addr", "localhost:0", "-advertise", "localhost:7999"), &testkit.Output{})
+		found := parseConfig(t, "-bind", fmt.Sprint("localhost:", port), "-rpc-addr", "localhost:0", "-advertise", "localhost:7999")
+		return Start(found, &testkit.Output{})
 	}
 	a, err := start()
 	// (another process may use the port at 127.0.0.1)
@@ -403,8 +412,10 @@ func TestMainMetrics(t *testing.T) {
 	if len(ended) > 0 {
 		t.Fatal(errs)
 	}
-	for _, what := range []string{"\nserf_members 1\n", "\nagent_handlers_waiting 0\n", "\nserf_member_joins_total 1\n", "\nserf_dropped_far_total 0\n",
-		"\nserf_refused_total{reason=\"too_long\"} 0\n", "\nserf_ignored_total{reason=\"too_old\"} 0\n", "\nserf_events_missing 0\n"} {
+	for _, what := range []string{
+		"\nserf_members 1\n", "\nagent_handlers_waiting 0\n", "\nserf_member_joins_total 1\n", "\nserf_dropped_far_total 0\n",
+		"\nserf_refused_total{reason=\"too_long\"} 0\n", "\nserf_ignored_total{reason=\"too_old\"} 0\n", "\nserf_events_missing 0\n",
+	} {
 		testkit.Eventually(t, what, func() bool {
 			answer, err := http.Get("http://" + at + "/metrics")
 			if err != nil {
@@ -479,7 +490,9 @@ func TestMainSignals(t *testing.T) {
 		if test.words != nil {
 			// Before each write of members, and every ten seconds, the node checks whether the snapshot was changed. If
 			// it noticed the missing file then, it would end before the signal arrives.
-			testkit.Eventually(t, "the node is in its snapshot", func() bool { return strings.Contains(testkit.Read(t, path), "alive: a ") })
+			testkit.Eventually(
+				t, "the node is in its snapshot", func() bool { return strings.Contains(testkit.Read(t, path), "alive: a ") },
+			)
 			testkit.Must(t, os.Remove(path))
 		}
 		send(test.signal)

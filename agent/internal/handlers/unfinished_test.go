@@ -144,7 +144,10 @@ func TestCloseLeavesOpen(t *testing.T) {
 		grace       time.Duration
 		calls, says string
 	}{
-		{"user=echo >FILE; while [ ! -e FILE-end ]; do sleep 0.01; done", time.Minute, "begin a, done a echo=0", "2 events are waiting for their handlers"},
+		{
+			"user=echo >FILE; while [ ! -e FILE-end ]; do sleep 0.01; done", time.Minute, "begin a, done a echo=0",
+			"2 events are waiting for their handlers",
+		},
 		{"user=echo >FILE; sleep 100", 10 * time.Millisecond, "begin a", "it was ended, since the agent is shutting down"},
 	} {
 		started := filepath.Join(t.TempDir(), "started")
@@ -160,7 +163,9 @@ func TestCloseLeavesOpen(t *testing.T) {
 			r.Close(test.grace)
 		}()
 		// (the first handler ends only after this)
-		testkit.Eventually(t, "the other events are left open", func() bool { return output.Has("2 events are waiting for their handlers") })
+		testkit.Eventually(
+			t, "the other events are left open", func() bool { return output.Has("2 events are waiting for their handlers") },
+		)
 		testkit.Write(t, started+"-end", "")
 		<-closed
 		r.Add(userEventOf("deploy", "late"))

@@ -102,7 +102,9 @@ func TestEventRuns(t *testing.T) {
 	sameRuns(t, "again", a.compactNow(), strings.Replace(want, "4711", "4711 again", 1)+"7 later: never began\n")
 	must(t, a.DoneWith(begun, []HandlerRun{{"deploy", RanCutOff}, {"rerun:deploy", "0"}}))
 	a.handle(waiting, HandlerRun{"deploy", RanTimedOut})
-	want = strings.NewReplacer("begun: begun deploy 4711", "begun: done deploy=cut-off rerun:deploy=0", "waiting: waiting", "waiting: done deploy=timed-out").Replace(want) + "7 later: never began\n"
+	want = strings.NewReplacer(
+		"begun: begun deploy 4711", "begun: done deploy=cut-off rerun:deploy=0", "waiting: waiting", "waiting: done deploy=timed-out",
+	).Replace(want) + "7 later: never began\n"
 	a.waitForLines()
 	sameRuns(t, "the second life", a.kill(), want)
 	a = startNode(t, "a", folder, withTracking)

@@ -398,7 +398,8 @@ func (f *flooder) verify(t *testing.T, a *testNode, min int) {
 	a.members.mu.Lock()
 	intents := len(a.members.intents)
 	a.members.mu.Unlock()
-	if f.events < min || f.queries < min || a.droppedFar.Load() < int64(min) || a.Fault() != nil || a.Serf.events.NumQueued() > Waiting || intents > maxIntents {
+	if f.events < min || f.queries < min || a.droppedFar.Load() < int64(min) || a.Fault() != nil || a.Serf.events.NumQueued() > Waiting ||
+		intents > maxIntents {
 		t.Errorf("%d events and %d queries: %v, %v", f.events, f.queries, a.Fault(), a.Stats())
 	}
 }

@@ -64,7 +64,9 @@ func newOwnTransport(t *testing.T) *ownTransport {
 func newNetTransport(t *testing.T) *memberlist.NetTransport {
 	t.Helper()
 	for attempt := 0; ; attempt++ {
-		transport, err := memberlist.NewNetTransport(&memberlist.NetTransportConfig{BindAddrs: []string{"127.0.0.1"}, Logger: log.New(io.Discard, "", 0)})
+		transport, err := memberlist.NewNetTransport(
+			&memberlist.NetTransportConfig{BindAddrs: []string{"127.0.0.1"}, Logger: log.New(io.Discard, "", 0)},
+		)
 		if err == nil {
 			return transport
 		}
