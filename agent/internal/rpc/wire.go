@@ -24,7 +24,7 @@ const (
 type reader struct {
 	stream *bufio.Reader
 	values msgpack.Reader
-	// plain reads a value for a plainDecoder.
+	// plain reads the value that a plainDecoder decodes.
 	plain msgpack.Reader
 	// decoder decodes the bytes in encoded. The reader keeps it because it caches what it has learned about types.
 	encoded bytes.Reader
