@@ -234,7 +234,7 @@ gives_exactly laws = λ name settings text t deeds ok goes_on fresh may.
     record { agent = k.inside.agent; follows = k.inside.follows; knows = knows.0; knows_queries = knows.1 }
 
 -- the result of a call is the agent's answer
-answer-given : {R : Type 0} (call_result : R → CallResult) (i : IdealAgent) (call : Call R) (file : List ℕ) (s t : Session) (g : CallResult) → is_ready s ≡ true → t.call_result ≡ g → kind_of g ≢ 0 → Went call_result i call file s t → call_result (ended i call Kept).answer ≡ g
+pub answer-given : {R : Type 0} (call_result : R → CallResult) (i : IdealAgent) (call : Call R) (file : List ℕ) (s t : Session) (g : CallResult) → is_ready s ≡ true → t.call_result ≡ g → kind_of g ≢ 0 → Went call_result i call file s t → call_result (ended i call Kept).answer ≡ g
 answer-given call_result i call file s t g ready at some (waits unready same) = absurd (let no : true ≡ false = sym ready ∙ unready in cc)
 answer-given call_result i call file s t g ready at some (rests is follows none) = absurd (some (sym (ap kind_of at) ∙ none.kind))
 answer-given call_result i call file s t g ready at some (goes is ends gives follows) = sym gives ∙ at
@@ -258,7 +258,7 @@ last-same : {A : Type 0} (xs : List A) (x y : A) → xs ++ x ∷ [] ≡ xs ++ y 
 last-same [] x y is = cc
 last-same {A} (z ∷ zs) x y is = last-same zs x y (let rest : zs ++ x ∷ [] ≡ zs ++ y ∷ [] = cc in rest)
 
-answer-queued : {R : Type 0} (burst_outcome : R → BurstOutcome) (i : IdealAgent) (call : Call R) (file : List ℕ) (s t : Session) (x : BurstOutcome) → t.burst.items ≡ s.burst.items ++ x ∷ [] → WentInBurst burst_outcome i call file s t → burst_outcome (ended i call Kept).answer ≡ x
+pub answer-queued : {R : Type 0} (burst_outcome : R → BurstOutcome) (i : IdealAgent) (call : Call R) (file : List ℕ) (s t : Session) (x : BurstOutcome) → t.burst.items ≡ s.burst.items ++ x ∷ [] → WentInBurst burst_outcome i call file s t → burst_outcome (ended i call Kept).answer ≡ x
 answer-queued burst_outcome i call file s t x at (lost follows same) = absurd (longer s.burst.items x (sym same ∙ at))
 answer-queued burst_outcome i call file s t x at (made may follows queued) = last-same s.burst.items (burst_outcome (ended i call Kept).answer) x (sym queued ∙ at)
 

@@ -10,6 +10,7 @@ use Rattle.serf_agent_c.proofs.OtherLines.{Reading}
 use Rattle.serf_agent_c.specs.declared.call_result.CallResult.TheVariants as call_results
 use Rattle.serf_agent.specs.declared.outcome.Outcome.TheVariants as outcomes
 use Rattle.serf_agent_c.specs.Bursts as bursts
+use Rattle.serf_agent_c.specs.HostPackets.{AreOfTypes, HostLives, SendsEvents, SendsEventsInBursts, SendsQueries, SendsQueriesInBursts, session_after}
 use Rattle.serf_agent_c.specs.declared.burst_outcome.BurstOutcome.TheVariants as burst_outcomes
 
 -- a host to which an event was handed out twice, and one to which a query was
@@ -190,3 +191,20 @@ pending_gives_nothing h unready = ap (λ (b : Bool). cond b (all-given h) h) (no
 
 pub written_gives_the_query : (h : Host) (q : DeliveredQuery) → h.fresh ≡ true → is_ready h.session ≡ true → handed_in h.session.call_result ≡ Some q → (shown h).queries ≡ h.queries ++ record { time = q.time; key = q.id } ∷ []
 written_gives_the_query h q fresh ready call_result = ap (λ (b : Bool). (cond (b && is_ready h.session) (all-given h) h).queries) fresh ∙ ap (λ (b : Bool). (cond b (all-given h) h).queries) ready ∙ ap (λ (o : Option DeliveredQuery). h.queries ++ query_entries o) call_result
+
+-- a host whose call fires something and returns a packet of a foreign kind
+pub events_sent_refuse : (name : List ℕ) (settings : Settings) (text : List ℕ) (first t : Session) (deeds : List Deed) (what payload : List ℕ) (coalesce : Bool) (code : Code) (f : Fired) (kind : ℕ) → HostLives name settings text first deeds
+    → is_ready (session_after text first deeds) ≡ true → Says (Fire what payload coalesce) (session_after text first deeds) t code → t.call_result ≡ call_results.Fired (Ok f) → decoded f.packet ≡ Ok (foreign kind) → SendsEvents → ⊥
+events_sent_refuse name settings text first t deeds what payload coalesce code f kind lives ready says call_result other sends = let both = sym other ∙ sends name settings text first t deeds what payload coalesce code f lives ready says call_result in absurd (cc both)
+
+pub events_in_bursts_sent_refuse : (name : List ℕ) (settings : Settings) (text : List ℕ) (first t : Session) (deeds : List Deed) (what payload : List ℕ) (coalesce : Bool) (code : Code) (f : Fired) (kind : ℕ) → HostLives name settings text first deeds
+    → Says (Burst (bursts.Fires what payload coalesce)) (session_after text first deeds) t code → t.burst.items ≡ (session_after text first deeds).burst.items ++ burst_outcomes.Fired (Ok f) ∷ [] → decoded f.packet ≡ Ok (foreign kind) → SendsEventsInBursts → ⊥
+events_in_bursts_sent_refuse name settings text first t deeds what payload coalesce code f kind lives says queued other sends = let both = sym other ∙ sends name settings text first t deeds what payload coalesce code f lives says queued in absurd (cc both)
+
+pub queries_sent_refuse : (name : List ℕ) (settings : Settings) (text : List ℕ) (first t : Session) (deeds : List Deed) (now id : ℕ) (what payload addr : List ℕ) (params : Params) (code : Code) (f : FiredQuery) (kind : ℕ) → HostLives name settings text first deeds → AreOfTypes id params.port params.relay_factor params.timeout
+    → is_ready (session_after text first deeds) ≡ true → Says (Query now id what payload addr params) (session_after text first deeds) t code → t.call_result ≡ call_results.QueryFired (Ok f) → decoded f.packet ≡ Ok (foreign kind) → SendsQueries → ⊥
+queries_sent_refuse name settings text first t deeds now id what payload addr params code f kind lives sized ready says call_result other sends = let both = sym other ∙ sends name settings text first t deeds now id what payload addr params code f lives sized ready says call_result in absurd (cc both)
+
+pub queries_in_bursts_sent_refuse : (name : List ℕ) (settings : Settings) (text : List ℕ) (first t : Session) (deeds : List Deed) (now id : ℕ) (what payload : List ℕ) (params : QueryParams) (code : Code) (f : FiredQuery) (kind : ℕ) → HostLives name settings text first deeds → AreOfTypes id params.port params.relay_factor params.timeout
+    → Says (Burst (bursts.Asks now id what payload params)) (session_after text first deeds) t code → t.burst.items ≡ (session_after text first deeds).burst.items ++ burst_outcomes.QueryFired (Ok f) ∷ [] → decoded f.packet ≡ Ok (foreign kind) → SendsQueriesInBursts → ⊥
+queries_in_bursts_sent_refuse name settings text first t deeds now id what payload params code f kind lives sized says queued other sends = let both = sym other ∙ sends name settings text first t deeds now id what payload params code f lives sized says queued in absurd (cc both)

@@ -24,5 +24,6 @@ pub mod HandlerLines
 pub mod OpenEvents
 pub mod Hosts
 pub mod HostLaws
+pub mod HostPackets
 pub mod TrackedHosts
 pub mod TrackedPromises

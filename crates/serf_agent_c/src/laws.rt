@@ -1,11 +1,12 @@
 //! Laws about the exports on which a host in C can rely, whatever it calls and whenever it is killed.
 
 ghost use Rattle.serf_agent_c.specs.HostLaws.{CodesDiffer, GivesExactly, HostSteps};
+ghost use Rattle.serf_agent_c.specs.HostPackets.{SendsEvents, SendsEventsInBursts, SendsQueries, SendsQueriesInBursts};
 ghost use Rattle.serf_agent_c.specs.Hosts.{GivesLater, GivesLaterInBursts, GivesNew, GivesOnce, GivesQueriesLater, GivesQueriesLaterInBursts, GivesQueriesOnce, TakesNewQueries};
 
-use serf_agent::{kept_life_promises, once_steps, unseen_promises};
+use serf_agent::{kept_life_promises, once_steps, short_packets, unseen_promises};
 use serf_snapshot::{min_time_laws, other_lines_laws, read_laws, text_laws};
-use serf_wire::{decoded_ranges, decoded_texts};
+use serf_wire::{canonical_packets, decoded_ranges, decoded_texts, exact_decoding};
 
 /// States what each export does to the ideal agent that a session follows, and to its host's file. This function does
 /// nothing.
@@ -52,4 +53,25 @@ pub fn host_promises()
     read_laws();
     decoded_texts();
     decoded_ranges();
+}
+
+/// States what a host in C sends for what it fires, in all its lives. This function does nothing.
+///
+/// A call that fires an event, in a burst or outside one, returns a packet that spells exactly this event: its name, its
+/// payload, its flag, and the time that the getters return (`events`, `events_in_bursts`). The packet of a query spells
+/// exactly this query, with its ID, its parameters and the name of the node (`queries`, `queries_in_bursts`). So if the
+/// host sends the packet, the other agents receive what was fired.
+pub fn host_packets()
+    ensures events { SendsEvents }
+    ensures events_in_bursts { SendsEventsInBursts }
+    ensures queries { SendsQueries }
+    ensures queries_in_bursts { SendsQueriesInBursts }
+{
+    // A host's session always follows an agent (`exactly`), and each export returns this agent's answer (`steps`). The
+    // agent's answer has the canonical packet, which is short and is decoded to the message that it spells.
+    host_promises();
+    host_steps();
+    short_packets();
+    canonical_packets();
+    exact_decoding();
 }

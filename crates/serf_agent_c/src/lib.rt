@@ -87,7 +87,7 @@ pub use intents::{
     IntentHead, serf_agent_intent, serf_agent_intent_error, serf_agent_join_packet,
     serf_agent_leave_packet,
 };
-pub use laws::{host_promises, host_steps};
+pub use laws::{host_packets, host_promises, host_steps};
 pub use observing::serf_agent_observe_member;
 pub use open_events::{OpenEventHead, OpenEventsHead, serf_agent_open_events};
 pub use query_time::serf_agent_query_time;
