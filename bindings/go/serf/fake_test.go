@@ -159,20 +159,24 @@ func atPort(port uint16) option {
 }
 
 // loopbackConfig returns the configuration of a node on a loopback address, with fast gossip. On a busy machine nodes may
-// still send and answer late. So a join may take long, and only a node that doesn't answer for a minute has failed.
+// still send and answer late. So a join may take long, and no node probes the others. (After a late answer, memberlist
+// would suspect the other node. That node would refute it, which memberlist handles with data races in its own code.)
 func loopbackConfig(name string) Config {
 	c := *DefaultConfig()
 	c.NodeName, c.ProtocolVersion, c.BroadcastTimeout, c.LogOutput = name, ProtocolVersionMax, 20*time.Second, io.Discard
 	c.MemberlistConfig = memberlist.DefaultLocalConfig()
 	c.MemberlistConfig.BindAddr, c.MemberlistConfig.BindPort, c.MemberlistConfig.AdvertisePort = "127.0.0.1", 0, 0
-	c.MemberlistConfig.TCPTimeout, c.MemberlistConfig.SuspicionMult = patience/2, 60
+	c.MemberlistConfig.TCPTimeout, c.MemberlistConfig.ProbeInterval = patience/2, time.Hour
 	return c
 }
 
-// withFailures makes a node notice within seconds that another one has failed.
-func withFailures(o *nodeOptions) {
-	o.MemberlistConfig.SuspicionMult = memberlist.DefaultLocalConfig().SuspicionMult
+// withProbes makes a node probe the others every second. One that doesn't answer for a minute has failed.
+func withProbes(o *nodeOptions) {
+	o.MemberlistConfig.ProbeInterval, o.MemberlistConfig.SuspicionMult = time.Second, 60
 }
+
+// withFailures makes a node notice within seconds that another one has failed.
+func withFailures(o *nodeOptions) { o.MemberlistConfig.ProbeInterval = time.Second }
 
 // startNode starts a node on a loopback address, with a snapshot if a folder is given.
 func startNode(t *testing.T, name, folder string, opts ...option) *testNode {

@@ -340,7 +340,7 @@ func TestFloodOfPackets(t *testing.T) {
 	a, b := startNode(
 		t, "a", "", withAgent(smallAgent(t)), withOnEvent(f.receive),
 	), startNode(t, "b", "", withAgent(smallAgent(t)), func(o *nodeOptions) {
-		o.MemberlistConfig.ProbeInterval, o.MemberlistConfig.ProbeTimeout = time.Hour, time.Minute
+		o.MemberlistConfig.ProbeTimeout = time.Minute
 	})
 	b.join(a)
 	to := *a.memberlist().LocalNode()

@@ -53,7 +53,7 @@ func captureMetrics(t *testing.T) func() string {
 // Serf's metrics are counted under Serf's names, and memberlist's are there too.
 func TestMetrics(t *testing.T) {
 	counted := captureMetrics(t)
-	a, b := startPair(t, func(o *nodeOptions) { o.QueueCheckInterval, o.ReapInterval = 10*time.Millisecond, time.Hour })
+	a, b := startPair(t, withProbes, func(o *nodeOptions) { o.QueueCheckInterval, o.ReapInterval = 10*time.Millisecond, time.Hour })
 	must(t, a.UserEvent("deploy app", nil, false))
 	response, err := a.Query("load", nil, &QueryParam{RequestAck: true, Timeout: time.Minute})
 	must(t, err)

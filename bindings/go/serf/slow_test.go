@@ -16,9 +16,7 @@ import (
 func TestPingsWhileDiskIsSlow(t *testing.T) {
 	f := &fakeAgent{flushGate: make(chan struct{})}
 	a := startNode(t, "a", "", withAgent(f))
-	other := startNode(t, "b", "", withAgent(&fakeAgent{}), func(o *nodeOptions) {
-		o.MemberlistConfig.ProbeInterval, o.MemberlistConfig.ProbeTimeout = time.Hour, 20*time.Second
-	})
+	other := startNode(t, "b", "", withAgent(&fakeAgent{}), func(o *nodeOptions) { o.MemberlistConfig.ProbeTimeout = 20 * time.Second })
 	a.delegate().NotifyMsg([]byte("\x03\x80"))
 	eventually(t, "the agent flushes", f.isBusy)
 	addr, err := net.ResolveUDPAddr("udp", a.address())
