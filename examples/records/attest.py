@@ -105,23 +105,25 @@ def check_packets(nodes, is_whole):
     return outside_packets
 
 
-def log_word(data, is_payload=False):
-    """The word that examples/serf_log_handler.sh writes for a text in hex. It leaves out one newline at the end of a payload."""
-    raw = b"" if data == "-" else bytes.fromhex(data)
-    raw = raw[:-1] if is_payload and raw.endswith(b"\n") else raw
+def log_word(text):
+    """The word that examples/serf_log_handler.sh writes for the name of a node."""
     for byte, word in ((b"%", b"%25"), (b" ", b"%20"), (b"\r", b"%0D"), (b"\n", b"%0A")):
-        raw = raw.replace(byte, word)
-    return {b"": b"-", b"-": b"%2D"}.get(raw, raw)
+        text = text.replace(byte, word)
+    return {b"": b"-", b"-": b"%2D"}.get(text, text)
+
+
+def logged_event(time, name, payload):
+    """An event, with its texts in hex, as a log of handlers has it: examples/serf_log_handler.sh leaves out zero bytes, and one newline at the
+    end of a payload."""
+    name, payload = (b"" if data == "-" else bytes.fromhex(data).replace(b"\0", b"") for data in (name, payload))
+    return time, name, payload.removesuffix(b"\n")
 
 
 def check_handlers(nodes, logs, program):
     """Refuses a line of a handlers' log that repeats another one, or for which nothing was handed out. It returns how many lines there
     are of recorded nodes, and of others."""
     handed_out = {
-        log_word(node.name.encode().hex()): Counter(
-            (time, log_word(name), log_word(payload, True)) for time, name, payload in node.events.keys() | node.kept
-        )
-        for node in nodes
+        log_word(node.name.encode()): Counter(logged_event(*event) for event in node.events.keys() | node.kept) for node in nodes
     }
     seen, runs, others = {}, 0, 0
     for line in program.log_lines(logs):
@@ -134,14 +136,14 @@ def check_handlers(nodes, logs, program):
             others += 1
             continue
         runs += 1
-        log_place = f"{line['log']}:{line['line']}"
-        described_event = f"the event {event[0]} {line['name']!r} {line['payload']!r}"
+        log_place, node_name = f"{line['log']}:{line['line']}", node.decode("ascii", "backslashreplace")
+        described_event = describe_event((event[0], line["name_hex"], line["payload_hex"]))
         if handed_out[node][event] == 0 and (node, event) in seen:
             raise Refused(
-                f"{log_place}: a handler of {line['node']} ran again for {described_event}; {seen[node, event]} has the first run"
+                f"{log_place}: a handler of {node_name} ran again for {described_event}; {seen[node, event]} has the first run"
             )
         if handed_out[node][event] == 0:
-            raise Refused(f"{log_place}: a handler of {line['node']} ran for {described_event}, which its agent didn't hand out")
+            raise Refused(f"{log_place}: a handler of {node_name} ran for {described_event}, which its agent didn't hand out")
         handed_out[node][event] -= 1
         seen[node, event] = log_place
     return runs, others

@@ -59,11 +59,8 @@ class DayNode:
             if word == "sent":
                 self.day.network.append(shown(one).split(" ")[1] if shown else words[0])
             elif word == "event":
-                time, name, payload = (
-                    words[0],
-                    bytes.fromhex(words[1]).decode(),
-                    "" if words[2] == "-" else bytes.fromhex(words[2]).decode(),
-                )
+                texts = ("" if data == "-" else bytes.fromhex(data).decode("utf-8", "replace") for data in words[1:3])
+                time, name, payload = words[0], *texts
                 self.day.log.append(f"event {self.name} {time} {name} {payload or '-'}")
             elif word == "handed":
                 self.handed = int(words[0]) + 1
@@ -153,6 +150,6 @@ class Day:
                 file.write(node.record)
             with open(os.path.join(folder, f"{node.name}.snapshot"), "wb") as file:
                 file.write(spliced(self.chance, node.kept()))
-        with open(os.path.join(folder, "handlers.log"), "w", encoding="ascii") as file:
+        with open(os.path.join(folder, "handlers.log"), "w", encoding="utf-8") as file:
             file.write("".join(line + "\n" for line in self.log))
         return paths

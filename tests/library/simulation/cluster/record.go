@@ -57,7 +57,8 @@ var logWord = strings.NewReplacer("%", "%25", " ", "%20", "\r", "%0D", "\n", "%0
 
 // logEvent appends an event that a life handed out to the node's log.
 func (l *life) logEvent(e serf.UserEvent) {
-	words := []string{e.Name, strings.TrimSuffix(string(e.Payload), "\n")}
+	withoutZeros := func(text string) string { return strings.ReplaceAll(text, "\x00", "") }
+	words := []string{withoutZeros(e.Name), strings.TrimSuffix(withoutZeros(string(e.Payload)), "\n")}
 	for i, word := range words {
 		switch word {
 		case "":
