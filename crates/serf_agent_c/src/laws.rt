@@ -57,10 +57,10 @@ pub fn host_promises()
 
 /// States what a host in C sends for what it fires, in all its lives. This function does nothing.
 ///
-/// A call that fires an event, in a burst or outside one, returns a packet that spells exactly this event: its name, its
-/// payload, its flag, and the time that the getters return (`events`, `events_in_bursts`). The packet of a query spells
-/// exactly this query, with its ID, its parameters and the name of the node (`queries`, `queries_in_bursts`). So if the
-/// host sends the packet, the other agents receive what was fired.
+/// A call that fires an event, in a burst or outside one, returns a packet that spells exactly this event: its name,
+/// its payload, its flag, and the time that the getters return (`events`, `events_in_bursts`). The packet of a query
+/// spells exactly this query, with its ID, its parameters and the name of the node (`queries`, `queries_in_bursts`). So
+/// if the host sends the packet, the other agents receive what was fired.
 pub fn host_packets()
     ensures events { SendsEvents }
     ensures events_in_bursts { SendsEventsInBursts }
