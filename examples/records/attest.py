@@ -113,8 +113,8 @@ def log_word(text):
 
 
 def logged_event(time, name, payload):
-    """An event, with its texts in hex, as a log of handlers has it: examples/serf_log_handler.sh leaves out zero bytes, and one newline at the
-    end of a payload."""
+    """An event, with its texts in hex, as a log of handlers has it: examples/serf_log_handler.sh leaves out zero bytes, and one newline at
+    the end of a payload."""
     name, payload = (b"" if data == "-" else bytes.fromhex(data).replace(b"\0", b"") for data in (name, payload))
     return time, name, payload.removesuffix(b"\n")
 

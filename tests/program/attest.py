@@ -144,7 +144,15 @@ def handlers(count):
 
 
 # Names and payloads of events, most of which examples/serf_log_handler.sh can't write as they are.
-TEXTS = ((b"re load", b"50% of it"), (b"-", b"-"), (b"x", b""), (b"two", b"lines\nand\r\n\n"), (b"\xc3\xbc", b"\xff\xfe \t"), (b"zero", b"a\0b"), (b"%20", b"%0A\n"))
+TEXTS = (
+    (b"re load", b"50% of it"),
+    (b"-", b"-"),
+    (b"x", b""),
+    (b"two", b"lines\nand\r\n\n"),
+    (b"\xc3\xbc", b"\xff\xfe \t"),
+    (b"zero", b"a\0b"),
+    (b"%20", b"%0A\n"),
+)
 
 
 def texts_of_handlers(count):
@@ -154,17 +162,23 @@ def texts_of_handlers(count):
         node = day.nodes[1]
         for name, payload in TEXTS:
             time = node.call(f"fire {name.hex()} {payload.hex() or '-'} 0")[0].split(" ")[1]
-            env = {**os.environb, b"SERF_LOG": log.encode(), b"SERF_EVENT": b"user", b"SERF_SELF_NAME": b"b", b"SERF_USER_EVENT": name, b"SERF_USER_LTIME": time.encode()}
-            subprocess.run([os.path.join(checks.EXAMPLES, "serf_log_handler.sh")], input=payload + (b"" if payload.endswith(b"\n") else b"\n"), env=env, check=True)
+            env = {**os.environb, b"SERF_LOG": log.encode(), b"SERF_EVENT": b"user", b"SERF_SELF_NAME": b"b"}
+            env |= {b"SERF_USER_EVENT": name, b"SERF_USER_LTIME": time.encode()}
+            handed = payload if payload.endswith(b"\n") else payload + b"\n"
+            subprocess.run([os.path.join(checks.EXAMPLES, "serf_log_handler.sh")], input=handed, env=env, check=True)
         path = day.write(folder)[1]
         status, output = run_script(path, "--handlers", log)
         count.check("texts of events", status == 0 and f"\n  {len(TEXTS)} runs of handlers" in output, output)
         with open(log, "rb") as file:
             lines = file.read().splitlines(True)
         for number, line in enumerate(lines):
-            for what, changed, says in (("again", line, "a handler of b ran again for the event "), ("with another payload", line[:-1] + b"%20\n", "which its agent didn't hand out")):
+            for what, changed, says in (
+                ("again", line, "a handler of b ran again for the event "),
+                ("with another payload", line[:-1] + b"%20\n", "which its agent didn't hand out"),
+            ):
                 with open(log, "wb") as file:
-                    file.write(b"".join([*lines, changed]) if what == "again" else b"".join(lines[:number] + [changed] + lines[number + 1 :]))
+                    rest = lines[number:] if what == "again" else lines[number + 1 :]
+                    file.write(b"".join([*lines[:number], *rest, changed] if what == "again" else [*lines[:number], changed, *rest]))
                 status, output = run_script(path, "--handlers", log)
                 count.check(f"{line!r} {what}", status == 1 and says in output, output)
 
