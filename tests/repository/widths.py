@@ -150,7 +150,7 @@ PLANTED = (
     ("a docstring", "a.py", '"""What it is.\n\nIt is more than this line has.\n"""\n', [3]),
     ("a text that doesn't fit", "a.py", 'a = "a text of more than this"\n', []),
     ("a text that fits", "a.py", 'a = b(c, d, e, f, "a text")\n', [1]),
-    ("an address", "a.sh", "# see https://kitchenrue.example/a\n", []),
+    ("an address", "a.sh", "# see https://serf.example/a\n", []),
     ("a line inside a text", "a.py", 'a = """x\na line of this very text\n"""\n', []),
     ("a line after a text", "a.py", f'a = """x\n"""\n{WIDE}\n', [3]),
     ("a line inside a text in Go", "a.go", "a := `x\na line of this very text\n`\n", []),
