@@ -60,7 +60,8 @@ func TestMetrics(t *testing.T) {
 	eventually(t, "b has the query", func() bool { return b.lastQuery("load") != nil })
 	must(t, b.lastQuery("load").Respond([]byte("1")))
 	<-response.ResponseCh()
-	must(t, b.SetTags(map[string]string{"x": "y"}))
+	// (if b changed its tags, memberlist could race with itself)
+	a.delegate().NotifyUpdate(b.memberlist().LocalNode())
 	a.delegate().NotifyLeave(b.memberlist().LocalNode())
 	a.delegate().NotifyJoin(b.memberlist().LocalNode())
 	for _, what := range []string{
